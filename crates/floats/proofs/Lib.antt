@@ -1,0 +1,12 @@
+pub mod Rounded
+pub mod Compared
+pub mod Exactly
+pub mod Bounds
+pub mod Bounded
+pub mod Monotone
+pub mod Sums
+pub mod Distances
+pub mod Alike
+pub mod Sizes
+pub mod Grids
+pub mod Stated

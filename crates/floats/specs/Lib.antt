@@ -1,0 +1,4 @@
+pub mod Value
+pub mod Page
+pub mod Zeros
+pub mod Laws

@@ -1,0 +1,4 @@
+pub mod Vectors
+pub mod Points
+pub mod Winding
+pub mod Rects

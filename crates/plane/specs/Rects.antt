@@ -1,0 +1,50 @@
+-- Rectangles: their box and winding as computed, for all floats; and the rule on the grid, over whole numbers. Assumes nothing.
+use mathlib.Core.Path.{_≡_}
+use mathlib.Core.Bool.{Bool, true, false, not, _&&_, cond, Bool·beq}
+use lib.IntN.{ℤ, pos, negsuc}
+use lib.Signed.{ltZ, _<ℤ_, _≤ℤ_}
+use lib.Ieee.{Float, lt, le}
+use Rattle.std.specs.Floats.{least, most}
+use Rattle.std.specs.Numbers.{minZ, maxZ}
+use Rattle.floats.specs.Page.{Grid}
+use Rattle.plane.specs.declared.point.Point.{Point}
+use Rattle.plane.specs.declared.rect.Rect.{Rect}
+use Rattle.plane.specs.Winding.{Gives}
+
+abbrev pub rect : Float → Float → Float → Float → Rect
+rect a b c d = record { x0 = a; y0 = b; x1 = c; y1 = d }
+
+-- ---- as computed
+-- the lesser and the greater side on each axis
+abbrev pub box : Rect → Rect
+box r = rect (least (r .x0) (r .x1)) (least (r .y0) (r .y1)) (most (r .x0) (r .x1)) (most (r .y0) (r .y1))
+
+-- p lies in b without its far sides
+abbrev pub half-open : Rect → Point → Bool
+half-open b p = le (b .x0) (p .x) && (lt (p .x) (b .x1) && (le (b .y0) (p .y) && lt (p .y) (b .y1)))
+
+abbrev pub unlike : Bool → Bool → Bool
+unlike s t = not (Bool·beq s t)
+
+abbrev pub wind : Rect → Point → ℤ
+wind r p = cond (half-open (box r) p) (cond (unlike (lt (r .x0) (r .x1)) (lt (r .y0) (r .y1))) (negsuc 0) (pos 1)) (pos 0)
+
+-- ---- on the grid
+-- r's corners are (a / 256, b / 256) and (c / 256, d / 256), and lie in the field
+pub record GridRect (r : Rect) (a b c d : ℤ) : Type 0 where
+  pub x0 : Grid (r .x0) a
+  pub y0 : Grid (r .y0) b
+  pub x1 : Grid (r .x1) c
+  pub y1 : Grid (r .y1) d
+
+-- u lies between a and c: from the lesser on, and before the greater
+abbrev pub Between : ℤ → ℤ → ℤ → Type 0
+Between a c u = (minZ a c ≤ℤ u) × (u <ℤ maxZ a c)
+
+-- 1, or -1 if exactly one axis is reversed
+abbrev pub turn : ℤ → ℤ → ℤ → ℤ → ℤ
+turn a b c d = cond (unlike (ltZ c a) (ltZ d b)) (negsuc 0) (pos 1)
+
+-- A rectangle holds its half-open box.
+abbrev pub RuleOfRect : ℤ → ℤ → ℤ → ℤ → ℤ → ℤ → ℤ → Type 0
+RuleOfRect a b c d u v w = Gives (Between a c u × Between b d v) (turn a b c d) w

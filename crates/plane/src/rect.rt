@@ -1,0 +1,96 @@
+//! A rectangle with sides along the axes.
+ghost use mathlib.Core.Path.{_≡_};
+ghost use mathlib.Core.Bool.{true};
+ghost use lib.IntN.{ℤ};
+ghost use lib.Ieee.{binary64, sub, mul};
+ghost use Rattle.plane.specs.Winding.{Lawful, nonzero};
+ghost use Rattle.plane.specs.Rects.{rect, box, wind, GridRect, RuleOfRect};
+ghost use Rattle.plane.specs.Points.{GridPoint};
+use super::point::Point;
+
+/// A rectangle by two opposite corners. It may be reversed: nothing keeps x0 below x1, or y0 below y1.
+#[derive(Clone, Copy)]
+pub struct Rect {
+    /// The x coordinate of the first corner.
+    pub x0: f64,
+    /// The y coordinate of the first corner.
+    pub y0: f64,
+    /// The x coordinate of the second corner.
+    pub x1: f64,
+    /// The y coordinate of the second corner.
+    pub y1: f64,
+}
+
+impl Rect {
+    /// The rectangle with these corners, as they are given.
+    pub const fn new(x0: f64, y0: f64, x1: f64, y1: f64) -> Rect
+        ensures { λ r. ⌜ r ≡ rect x0 y0 x1 y1 ⌝ }
+    {
+        Rect { x0, y0, x1, y1 }
+    }
+
+    /// The width, negative where x is reversed.
+    pub const fn width(&self) -> f64
+        ensures { λ r. ⌜ r ≡ sub binary64 (now (self .entry) .x1) (now (self .entry) .x0) ⌝ }
+    {
+        self.x1 - self.x0
+    }
+
+    /// The height, negative where y is reversed.
+    pub const fn height(&self) -> f64
+        ensures { λ r. ⌜ r ≡ sub binary64 (now (self .entry) .y1) (now (self .entry) .y0) ⌝ }
+    {
+        self.y1 - self.y0
+    }
+
+    /// The same rectangle with no side reversed.
+    pub const fn abs(&self) -> Rect
+        ensures { λ r. ⌜ r ≡ box (now (self .entry)) ⌝ }
+    {
+        Rect {
+            x0: self.x0.min(self.x1),
+            y0: self.y0.min(self.y1),
+            x1: self.x0.max(self.x1),
+            y1: self.y0.max(self.y1),
+        }
+    }
+
+    /// Width times height: negative where just one axis is reversed.
+    pub const fn area(&self) -> f64
+        ensures { λ r. ⌜ r ≡ mul binary64 (sub binary64 (now (self .entry) .x1) (now (self .entry) .x0)) (sub binary64 (now (self .entry) .y1) (now (self .entry) .y0)) ⌝ }
+    {
+        self.width() * self.height()
+    }
+
+    /// What the rectangle gives at `pt`: 0 outside its half-open box, else 1, or -1 where just one axis is reversed.
+    pub fn winding(&self, pt: Point) -> i32
+        ensures value { λ r. ⌜ r ≡ wind (now (self .entry)) pt ⌝ }
+        ensures lawful { λ r. ⌜ Lawful (wind (now (self .entry))) (box (now (self .entry))) pt ⌝ }
+        ensures grid { λ r. ⌜ ((a b c d u v : ℤ) → GridRect (now (self .entry)) a b c d → GridPoint pt u v → RuleOfRect a b c d u v r) ⌝ }
+    {
+        let Rect { x0, y0, x1, y1 } = self.abs();
+        if x0 <= pt.x && pt.x < x1 && y0 <= pt.y && pt.y < y1 {
+            if (self.x0 < self.x1) != (self.y0 < self.y1) {
+                -1
+            } else {
+                1
+            }
+        } else {
+            0
+        }
+    }
+
+    /// Whether the rectangle holds `pt`: its winding there is not 0.
+    pub fn contains(&self, pt: Point) -> bool
+        ensures { λ r. ⌜ r ≡ nonzero (wind (now (self .entry)) pt) ⌝ }
+    {
+        self.winding(pt) != 0
+    }
+
+    /// The smallest box that holds the rectangle.
+    pub const fn bounding_box(&self) -> Rect
+        ensures { λ r. ⌜ r ≡ box (now (self .entry)) ⌝ }
+    {
+        self.abs()
+    }
+}

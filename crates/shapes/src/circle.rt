@@ -1,0 +1,64 @@
+//! A circle.
+ghost use mathlib.Core.Path.{_≡_};
+ghost use lib.IntN.{ℤ};
+ghost use lib.Ieee.{binary64, mul, ofBits};
+ghost use Rattle.plane.specs.Points.{GridPoint};
+ghost use Rattle.plane.specs.Winding.{Lawful, nonzero};
+ghost use Rattle.shapes.specs.Circles.{circle, box, wind, π, GridCircle, RuleOfCircle};
+use plane::point::Point;
+use plane::rect::Rect;
+use std::f64::consts::PI;
+
+/// A circle by its centre and radius. A radius below 0 counts by its size.
+#[derive(Clone, Copy)]
+pub struct Circle {
+    /// The centre.
+    pub center: Point,
+    /// The radius.
+    pub radius: f64,
+}
+
+impl Circle {
+    /// The circle with this centre and radius.
+    pub const fn new(center: Point, radius: f64) -> Circle
+        ensures { λ r. ⌜ r ≡ circle center radius ⌝ }
+    {
+        Circle { center, radius }
+    }
+
+    /// The area.
+    pub const fn area(&self) -> f64
+        ensures { λ r. ⌜ r ≡ mul binary64 π (mul binary64 (now (self .entry) .radius) (now (self .entry) .radius)) ⌝ }
+    {
+        PI * (self.radius * self.radius)
+    }
+
+    /// What the circle gives at `pt`: 1 nearer to the centre than the radius, else 0.
+    pub fn winding(&self, pt: Point) -> i32
+        ensures value { λ r. ⌜ r ≡ wind (now (self .entry)) pt ⌝ }
+        ensures lawful { λ r. ⌜ Lawful (wind (now (self .entry))) (box (now (self .entry))) pt ⌝ }
+        ensures grid { λ r. ⌜ ((a b q u v : ℤ) → GridCircle (now (self .entry)) a b q → GridPoint pt u v → RuleOfCircle a b q u v r) ⌝ }
+    {
+        if pt.sub(self.center).hypot2() < self.radius * self.radius {
+            1
+        } else {
+            0
+        }
+    }
+
+    /// Whether the circle holds `pt`: its winding there is not 0.
+    pub fn contains(&self, pt: Point) -> bool
+        ensures { λ r. ⌜ r ≡ nonzero (wind (now (self .entry)) pt) ⌝ }
+    {
+        self.winding(pt) != 0
+    }
+
+    /// The smallest box that holds the circle, each side rounded once.
+    pub const fn bounding_box(&self) -> Rect
+        ensures { λ r. ⌜ r ≡ box (now (self .entry)) ⌝ }
+    {
+        let r = self.radius.abs();
+        let Point { x, y } = self.center;
+        Rect::new(x - r, y - r, x + r, y + r)
+    }
+}
