@@ -21,7 +21,7 @@ use Rattle.floats.proofs.Compared.{is-lt, is-le, is-eq}
 use Rattle.floats.proofs.Exactly.{val-add, val-sub}
 use Rattle.floats.proofs.Monotone.{bounds}
 use Rattle.floats.proofs.Sums.{add-mono}
-use Rattle.floats.proofs.Sizes.{abs-is, abs-is-back, eq-is}
+use Rattle.floats.proofs.Sizes.{abs-is, abs-is-back, abs-from-zero, eq-is}
 
 -- ---- the numbers in the tests
 pub page-end : Is (ofBits binary64 0x40b0_0000_0000_0000) (pos 4096) 1
@@ -125,14 +125,6 @@ only-size x a e g = let b = abs-is-back x (g .0) (2 ^ 8) (subst (λ (z : Float).
 size-val : (x a : Float) → a ≡ withSign false x → (g : GridNumber x) → Val a (pos (natAbs (g .0))) 8
 size-val x a e g = subst (λ (z : Float). Val z (pos (natAbs (g .0))) 8) (sym e) (abs-is x (g .0) (2 ^ 8) (g .1))
 
-size-from-zero : (x y : Float) → T (lt (withSign false x) y) → T (le zeroF (withSign false x))
-unfolding withSign
-size-from-zero nan y h = absurd (unfold lt in h)
-size-from-zero (inf s) y h = unfold le lt in tt
-size-from-zero (fin s m e) y h =
-    subst T (sym (is-le zeroF (fin false m e) (pos 0) (pos (m * up e)) (down e) (down-pos e) (false, 0, (refl, omega arith), refl) (false, m * up e, (refl, refl), refl)))
-    (le→leb 0 (m * up e) (omega arith))
-
 below-infinity : (x : Float) (k : ℤ) (c : ℕ) → Is x k c → T (lt x (inf false))
 below-infinity nan k c v = absurd (v .2)
 below-infinity (inf s) k c v = absurd (v .2)
@@ -153,7 +145,7 @@ infinity = ofBits binary64 0x7ff0_0000_0000_0000
 pub small-only : (x a : Float) → a ≡ withSign false x → T (lt a limit) → T (eq (sub binary64 (add binary64 a limit) limit) a) → GridNumber x
 small-only x a e h t =
     let below : T (lt a coarse) = subst (λ (z : Float). T (lt a z)) coarse-is h in
-    let from : T (le zeroF a) = subst (λ (z : Float). T (le zeroF z)) (sym e) (size-from-zero x coarse (subst (λ (z : Float). T (lt z coarse)) e below)) in
+    let from : T (le zeroF a) = subst (λ (z : Float). T (le zeroF z)) (sym e) (abs-from-zero x (subst (λ (z : Float). T (not (isNan z))) e (number-below a coarse below))) in
     only-size x a e (kept-only a from below (subst (λ (z : Float). T (eq (sub binary64 (add binary64 a z) z) a)) coarse-is t))
 
 pub small-every : (x a : Float) → a ≡ withSign false x → T (lt a limit) → GridNumber x → T (eq (sub binary64 (add binary64 a limit) limit) a)

@@ -10,3 +10,4 @@ pub mod Alike
 pub mod Sizes
 pub mod Grids
 pub mod Stated
+pub mod Ring

@@ -1,18 +1,18 @@
 -- The size of a float, floats that compare as equal, and which floats are at most a whole number in size. Assumes nothing.
 use mathlib.Core.Path.{_≡_, refl, sym, ap, _∙_, subst}
 use mathlib.Core.Logic.{_⊎_, inl, inr}
-use mathlib.Core.Bool.{Bool, true, false, _&&_, _||_, Bool·beq}
+use mathlib.Core.Bool.{Bool, true, false, not, _&&_, _||_, Bool·beq}
 use Prim.Native.Nat.{ℕ, zero, suc, _+_, _*_, _≤_, _<_}
 use native.Mathlib.Nat.{eq-of-mul-eq-mul-right, mul-pos, zero-mul}
 use native.Mathlib.Omega.{arith}
 use lib.Dec.{T, eqb, eqb→eq, leb→le, le→leb}
 use lib.IntN.{ℤ, pos, negsuc, natAbs}
 use lib.Signed.{leZ, _≤ℤ_}
-use lib.Ieee.{Float, nan, inf, fin, up, down, level, lt, le, eq}
+use lib.Ieee.{Float, nan, inf, fin, up, down, level, lt, le, eq, isNan}
 use lib.Ieee.Fits.{down-pos, and-l, and-r}
 use lib.Ieee.Exact.{HasValue}
 use lib.Ieee.Scale.{finite}
-use Rattle.std.specs.Floats.{withSign}
+use Rattle.std.specs.Floats.{zero as zeroF, withSign}
 use Rattle.std.proofs.shelf.Signed.{ints}
 use Rattle.floats.specs.Value.{signed, Is}
 use Rattle.floats.specs.Page.{UpTo}
@@ -34,6 +34,19 @@ unfolding withSign
 abs-is-back nan k c v = absurd (v .2)
 abs-is-back (inf t) k c v = absurd (v .2)
 abs-is-back (fin t m e) k c v = (signed t (v .1), (t, v .1, (refl, v .2 .1), refl), abs-signed t (v .1) ∙ sym (ap natAbs (v .3) ∙ abs-signed (v .0) (v .1)))
+
+pub abs-from-zero : (x : Float) → T (not (isNan (withSign false x))) → T (le zeroF (withSign false x))
+unfolding withSign isNan
+abs-from-zero nan h = absurd h
+abs-from-zero (inf s) h = unfold le lt in tt
+abs-from-zero (fin s m e) h =
+    subst T (sym (is-le zeroF (fin false m e) (pos 0) (pos (m * up e)) (down e) (down-pos e) (false, 0, (refl, omega arith), refl) (false, m * up e, (refl, refl), refl)))
+    (le→leb 0 (m * up e) (omega arith))
+
+pub is-finite : (x : Float) (k : ℤ) (c : ℕ) → Is x k c → T (finite x)
+is-finite nan k c v = absurd (v .2)
+is-finite (inf s) k c v = absurd (v .2)
+is-finite (fin s m e) k c v = tt
 
 -- ---- equal floats have one value
 zero-signed : (s t : Bool) (a : ℕ) → a ≡ 0 → signed s a ≡ signed t a

@@ -1,1 +1,2 @@
+pub mod Equals
 pub mod Rectangles

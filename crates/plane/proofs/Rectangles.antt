@@ -20,6 +20,7 @@ use Rattle.plane.specs.declared.rect.Rect.{Rect}
 use Rattle.plane.specs.Points.{GridPoint, FieldPoint, Same, FiniteBox, InBox}
 use Rattle.plane.specs.Winding.{Gives, IsWinding, Lawful}
 use Rattle.plane.specs.Rects.{rect, box, half-open, unlike, wind, GridRect, Between, turn, RuleOfRect}
+use Rattle.plane.proofs.Equals.{alike-sym}
 
 -- ---- the laws
 small : (r : Rect) (p : Point) → IsWinding (wind r p)
@@ -32,16 +33,12 @@ small r p = of (half-open (box r) p) (unlike (lt (r .x0) (r .x1)) (lt (r .y0) (r
 
 pub same-half-open : (b : Rect) (p q : Point) → Same p q → half-open b q ≡ half-open b p
 same-half-open b p q s =
-    let X : Alike (q .x) (p .x) = turned (s .x) in
-    let Y : Alike (q .y) (p .y) = turned (s .y) in
+    let X : Alike (q .x) (p .x) = alike-sym (s .x) in
+    let Y : Alike (q .y) (p .y) = alike-sym (s .y) in
     λ i. zeros-agree .of-le (b .x0) (b .x0) (q .x) (p .x) (inl refl) X i
         && (zeros-agree .of-lt (q .x) (p .x) (b .x1) (b .x1) X (inl refl) i
         && (zeros-agree .of-le (b .y0) (b .y0) (q .y) (p .y) (inl refl) Y i
         && zeros-agree .of-lt (q .y) (p .y) (b .y1) (b .y1) Y (inl refl) i))
-  where
-    turned : {x y : Float} → Alike x y → Alike y x
-    turned (inl e) = inl (sym e)
-    turned (inr z) = inr (z .1, z .0)
 
 closed-of : (b : Rect) (p : Point) → half-open b p ≡ true → InBox b p
 closed-of b p h =

@@ -1,7 +1,8 @@
 //! A circle.
 ghost use mathlib.Core.Path.{_≡_};
 ghost use lib.IntN.{ℤ};
-ghost use lib.Ieee.{binary64, mul, ofBits};
+ghost use lib.Dec.{T};
+ghost use lib.Ieee.{binary64, fits, mul};
 ghost use Rattle.plane.specs.Points.{GridPoint};
 ghost use Rattle.plane.specs.Winding.{Lawful, nonzero};
 ghost use Rattle.shapes.specs.Circles.{circle, box, wind, π, GridCircle, RuleOfCircle};
@@ -30,7 +31,7 @@ impl Circle {
     pub const fn area(&self) -> f64
         ensures { λ r. ⌜ r ≡ mul binary64 π (mul binary64 (now (self .entry) .radius) (now (self .entry) .radius)) ⌝ }
     {
-        PI * (self.radius * self.radius)
+        PI * square(self.radius)
     }
 
     /// What the circle gives at `pt`: 1 nearer to the centre than the radius, else 0.
@@ -39,7 +40,7 @@ impl Circle {
         ensures lawful { λ r. ⌜ Lawful (wind (now (self .entry))) (box (now (self .entry))) pt ⌝ }
         ensures grid { λ r. ⌜ ((a b q u v : ℤ) → GridCircle (now (self .entry)) a b q → GridPoint pt u v → RuleOfCircle a b q u v r) ⌝ }
     {
-        if pt.sub(self.center).hypot2() < self.radius * self.radius {
+        if pt.sub(self.center).hypot2() < square(self.radius) {
             1
         } else {
             0
@@ -61,4 +62,13 @@ impl Circle {
         let Point { x, y } = self.center;
         Rect::new(x - r, y - r, x + r, y + r)
     }
+}
+
+// The square. A caller also learns that its format holds `h`, which a proof knows of a parameter and
+// not of a field behind a reference.
+const fn square(h: f64) -> f64
+    ensures value { λ r. ⌜ r ≡ mul binary64 h h ⌝ }
+    ensures held { λ r. ⌜ T (fits binary64 h) ⌝ }
+{
+    h * h
 }

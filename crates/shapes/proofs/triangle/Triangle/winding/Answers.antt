@@ -1,0 +1,21 @@
+-- Each way out gives what the definition computes; the laws and the rule on the grid are facts of the definition.
+use borrow.Author.Needs.{needs}
+use mathlib.Core.Path.{_≡_}
+use Rattle.shapes.specs.Triangles.{wind}
+use Rattle.shapes.proofs.Threecornered.{triangle-lawful, triangle-rule}
+use Rattle.shapes.proofs.triangle.Triangle.winding.Needs as need
+
+pub returns-then-cross : need.returns-then-cross
+returns-then-cross c =
+    let e : _ ≡ wind (c .args .self .now) (c .args .pt) = search needs in
+    record { value = e; lawful = triangle-lawful _ _; grid = λ a b l d m f u v. triangle-rule _ _ _ a b l d m f u v e }
+
+pub returns-then-pt-y1 : need.returns-then-pt-y1
+returns-then-pt-y1 c =
+    let e : _ ≡ wind (c .args .self .now) (c .args .pt) = search needs in
+    record { value = e; lawful = triangle-lawful _ _; grid = λ a b l d m f u v. triangle-rule _ _ _ a b l d m f u v e }
+
+pub returns-else-x0-pt : need.returns-else-x0-pt
+returns-else-x0-pt c =
+    let e : _ ≡ wind (c .args .self .now) (c .args .pt) = search needs in
+    record { value = e; lawful = triangle-lawful _ _; grid = λ a b l d m f u v. triangle-rule _ _ _ a b l d m f u v e }
