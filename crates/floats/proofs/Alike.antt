@@ -275,5 +275,5 @@ zeros-agree = record {
   of-max = max-alike;
   of-lt = tests lt lt-left lt-right;
   of-le = le-alike;
-  of-eq = tests eq eq-left eq-right
+  of-eq = tests eq eq-left eq-right;
 }

@@ -23,9 +23,10 @@ one-numerator k l t =
     omega (arith, ints)
 
 val-eq : (x y : Float) (k l : ℤ) (i : ℕ) → Val x k i → Val y l i → (T (eq x y) → k ≡ l) × (k ≡ l → T (eq x y))
-val-eq x y k l i v w =
-    (λ t. one-numerator k l (subst T (is-eq-test x y k l (2 ^ i) (pow-pos i) v w) t),
-    λ e. subst T (sym (is-eq x y k l (2 ^ i) (pow-pos i) v w e)) tt)
+val-eq x y k l i v w = (
+  λ t. one-numerator k l (subst T (is-eq-test x y k l (2 ^ i) (pow-pos i) v w) t),
+  λ e. subst T (sym (is-eq x y k l (2 ^ i) (pow-pos i) v w e)) tt,
+)
 
 pub exact : Exact
 exact = record {
@@ -35,12 +36,12 @@ exact = record {
   of-neg = val-neg;
   of-lt = λ x y k l i v w. is-lt x y k l (2 ^ i) (pow-pos i) v w;
   of-le = λ x y k l i v w. is-le x y k l (2 ^ i) (pow-pos i) v w;
-  of-eq = val-eq
+  of-eq = val-eq;
 }
 
 pub ordered : Ordered
 ordered = record {
   of-add = add-mono binary64;
   of-sub = sub-mono binary64;
-  of-mul = mul-mono binary64
+  of-mul = mul-mono binary64;
 }

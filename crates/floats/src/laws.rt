@@ -6,19 +6,16 @@ ghost use Rattle.floats.specs.Laws.{Exact, Ordered, ZerosAgree};
 /// 53 bits, and the comparisons are those of the numerators.
 pub fn exact_on_fractions()
     ensures { λ _. ⌜ Exact ⌝ }
-{
-}
+{}
 
 /// Rounding keeps the order of finite floats of any size and sign: of x ≤ y follow x + e ≤ y + e and
 /// x − e ≤ y − e as computed, and products of numbers that are not negative keep their order.
 pub fn rounding_keeps_order()
     ensures { λ _. ⌜ Ordered ⌝ }
-{
-}
+{}
 
 /// Floats that are equal but for the sign of a zero have equal sums, differences, products,
 /// negations, sizes, minima and maxima, again but for the sign of a zero, and compare alike.
 pub fn zero_signs_agree()
     ensures { λ _. ⌜ ZerosAgree ⌝ }
-{
-}
+{}

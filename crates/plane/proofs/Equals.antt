@@ -27,7 +27,7 @@ vec-refl v = record { x = alike-refl (v .x); y = alike-refl (v .y) }
 pub to-same : (a p q : Point) → Same p q → SameVec (from-to a q) (from-to a p)
 to-same a p q s = record {
   x = zeros-agree .of-sub (q .x) (p .x) (a .x) (a .x) (alike-sym (s .x)) (alike-refl (a .x));
-  y = zeros-agree .of-sub (q .y) (p .y) (a .y) (a .y) (alike-sym (s .y)) (alike-refl (a .y))
+  y = zeros-agree .of-sub (q .y) (p .y) (a .y) (a .y) (alike-sym (s .y)) (alike-refl (a .y));
 }
 
 pub dot-same : (v v' w w' : Vec2) → SameVec v v' → SameVec w w' → Alike (dot v w) (dot v' w')

@@ -3,7 +3,7 @@ use mathlib.Core.Path.{_≡_, refl, sym, ap, _∙_, subst}
 use mathlib.Core.Logic.{_⊎_, inl, inr}
 use mathlib.Core.Bool.{Bool, true, false, not, _&&_, cond}
 use lib.Dec.{T}
-use lib.IntN.{ℤ, pos, negsuc}
+use lib.IntN.{ℤ, pos, negsuc, _-ℤ_, _*ℤ_}
 use lib.Signed.{ltZ, leZ, _<ℤ_, _≤ℤ_}
 use lib.Ieee.{Float, lt, le}
 use lib.Ieee.Fits.{and-l, and-r}
@@ -12,14 +12,15 @@ use Rattle.std.specs.Floats.{least, most}
 use Rattle.std.specs.Numbers.{minZ, maxZ}
 use Rattle.std.proofs.num.Compares.{le-of-lt, passes}
 use Rattle.std.proofs.shelf.Signed.{ints, clamps, by-ltZ}
+use Rattle.floats.specs.Value.{Val}
 use Rattle.floats.specs.Zeros.{Alike}
 use Rattle.floats.proofs.Alike.{zeros-agree}
-use Rattle.floats.proofs.Bounded.{in-lt, in-le, in-min, in-max}
+use Rattle.floats.proofs.Bounded.{in-sub, in-mul, in-lt, in-le, in-min, in-max}
 use Rattle.plane.specs.declared.point.Point.{Point}
 use Rattle.plane.specs.declared.rect.Rect.{Rect}
 use Rattle.plane.specs.Points.{GridPoint, FieldPoint, Same, FiniteBox, InBox}
 use Rattle.plane.specs.Winding.{Gives, IsWinding, Lawful}
-use Rattle.plane.specs.Rects.{rect, box, half-open, unlike, wind, GridRect, Between, turn, RuleOfRect}
+use Rattle.plane.specs.Rects.{rect, area-of, box, half-open, unlike, wind, GridRect, Sides, Between, turn, RuleOfRect}
 use Rattle.plane.proofs.Equals.{alike-sym}
 
 -- ---- the laws
@@ -36,9 +37,9 @@ same-half-open b p q s =
     let X : Alike (q .x) (p .x) = alike-sym (s .x) in
     let Y : Alike (q .y) (p .y) = alike-sym (s .y) in
     λ i. zeros-agree .of-le (b .x0) (b .x0) (q .x) (p .x) (inl refl) X i
-        && (zeros-agree .of-lt (q .x) (p .x) (b .x1) (b .x1) X (inl refl) i
-        && (zeros-agree .of-le (b .y0) (b .y0) (q .y) (p .y) (inl refl) Y i
-        && zeros-agree .of-lt (q .y) (p .y) (b .y1) (b .y1) Y (inl refl) i))
+    && (zeros-agree .of-lt (q .x) (p .x) (b .x1) (b .x1) X (inl refl) i
+    && (zeros-agree .of-le (b .y0) (b .y0) (q .y) (p .y) (inl refl) Y i
+    && zeros-agree .of-lt (q .y) (p .y) (b .y1) (b .y1) Y (inl refl) i))
 
 closed-of : (b : Rect) (p : Point) → half-open b p ≡ true → InBox b p
 closed-of b p h =
@@ -51,7 +52,7 @@ closed-of b p h =
       left = and-l A (B && (C && D)) t;
       right = le-of-lt (p .x) (b .x1) (and-l B (C && D) (and-r A (B && (C && D)) t));
       low = and-l C D (and-r B (C && D) (and-r A (B && (C && D)) t));
-      high = le-of-lt (p .y) (b .y1) (and-r C D (and-r B (C && D) (and-r A (B && (C && D)) t)))
+      high = le-of-lt (p .y) (b .y1) (and-r C D (and-r B (C && D) (and-r A (B && (C && D)) t)));
     }
 
 held : (s : Bool) (z : ℤ) → (cond s z (pos 0) ≡ pos 0 → ⊥) → s ≡ true
@@ -62,7 +63,7 @@ pub rect-lawful : (r : Rect) (p : Point) → Lawful (wind r) (box r) p
 rect-lawful r p = record {
   small = small r p;
   same = λ q s. ap (λ (t : Bool). cond t (cond (unlike (lt (r .x0) (r .x1)) (lt (r .y0) (r .y1))) (negsuc 0) (pos 1)) (pos 0)) (same-half-open (box r) p q s);
-  boxed = λ f g n. closed-of (box r) p (held (half-open (box r) p) _ n)
+  boxed = λ f g n. closed-of (box r) p (held (half-open (box r) p) _ n);
 }
 
 -- ---- on the grid
@@ -73,7 +74,7 @@ windZ a b c d u v = cond (leZ (minZ a c) u && (ltZ u (maxZ a c) && (leZ (minZ b 
 wind-whole : (r : Rect) (p : Point) (a b c d u v : ℤ) → GridRect r a b c d → GridPoint p u v → wind r p ≡ windZ a b c d u v
 wind-whole r p a b c d u v R P =
     λ i. cond (in-le (in-min (R .x0) (R .x1)) (P .x) i && (in-lt (P .x) (in-max (R .x0) (R .x1)) i && (in-le (in-min (R .y0) (R .y1)) (P .y) i && in-lt (P .y) (in-max (R .y0) (R .y1)) i)))
-      (cond (unlike (in-lt (R .x0) (R .x1) i) (in-lt (R .y0) (R .y1) i)) (negsuc 0) (pos 1)) (pos 0)
+    (cond (unlike (in-lt (R .x0) (R .x1) i) (in-lt (R .y0) (R .y1) i)) (negsuc 0) (pos 1)) (pos 0)
 
 -- between two sides that differ, one is reversed just where it does not ascend
 apart : (a c u : ℤ) → Between a c u → ltZ a c ≡ not (ltZ c a)
@@ -110,8 +111,19 @@ left-test true true true true z n = absurd (n tt tt tt tt)
 whole-rule : (a b c d u v : ℤ) → RuleOfRect a b c d u v (windZ a b c d u v)
 whole-rule a b c d u v = record {
   inside = λ h. held-test _ _ _ _ _ _ (h .0 .0 .le) (h .0 .1 .lt) (h .1 .0 .le) (h .1 .1 .lt) (turned a b c d u v (h .0) (h .1));
-  outside = λ n. left-test _ _ _ _ _ (λ p q r s. n ((record { le = p }, record { lt = q }), (record { le = r }, record { lt = s })))
+  outside = λ n. left-test _ _ _ _ _ (λ p q r s. n ((record { le = p }, record { lt = q }), (record { le = r }, record { lt = s })));
 }
 
 pub rect-rule : (r : Rect) (p : Point) (w a b c d u v : ℤ) → w ≡ wind r p → GridRect r a b c d → GridPoint p u v → RuleOfRect a b c d u v w
 rect-rule r p w a b c d u v e R P = subst (RuleOfRect a b c d u v) (sym (e ∙ wind-whole r p a b c d u v R P)) (whole-rule a b c d u v)
+
+pub rect-area : (r : Rect) (a b c d : ℤ) → GridRect r a b c d → Val (area-of r) ((c -ℤ a) *ℤ (d -ℤ b)) 16
+rect-area r a b c d R = in-mul tt tt (in-sub tt tt (R .x1) (R .x0)) (in-sub tt tt (R .y1) (R .y0)) .val
+
+pub rect-sides : (r : Rect) (a b c d : ℤ) → GridRect r a b c d → Sides (box r) (minZ a c) (minZ b d) (maxZ a c) (maxZ b d)
+rect-sides r a b c d R = record {
+  x0 = in-min (R .x0) (R .x1) .val;
+  y0 = in-min (R .y0) (R .y1) .val;
+  x1 = in-max (R .x0) (R .x1) .val;
+  y1 = in-max (R .y0) (R .y1) .val;
+}

@@ -3,9 +3,10 @@ use mathlib.Core.Path.{_≡_}
 use mathlib.Core.Bool.{Bool, true, false, not, _&&_, cond, Bool·beq}
 use lib.IntN.{ℤ, pos, negsuc}
 use lib.Signed.{ltZ, _<ℤ_, _≤ℤ_}
-use lib.Ieee.{Float, lt, le}
+use lib.Ieee.{Float, binary64, sub, mul, lt, le}
 use Rattle.std.specs.Floats.{least, most}
 use Rattle.std.specs.Numbers.{minZ, maxZ}
+use Rattle.floats.specs.Value.{Val}
 use Rattle.floats.specs.Page.{Grid}
 use Rattle.plane.specs.declared.point.Point.{Point}
 use Rattle.plane.specs.declared.rect.Rect.{Rect}
@@ -15,6 +16,10 @@ abbrev pub rect : Float → Float → Float → Float → Rect
 rect a b c d = record { x0 = a; y0 = b; x1 = c; y1 = d }
 
 -- ---- as computed
+-- width times height
+abbrev pub area-of : Rect → Float
+area-of r = mul binary64 (sub binary64 (r .x1) (r .x0)) (sub binary64 (r .y1) (r .y0))
+
 -- the lesser and the greater side on each axis
 abbrev pub box : Rect → Rect
 box r = rect (least (r .x0) (r .x1)) (least (r .y0) (r .y1)) (most (r .x0) (r .x1)) (most (r .y0) (r .y1))
@@ -36,6 +41,13 @@ pub record GridRect (r : Rect) (a b c d : ℤ) : Type 0 where
   pub y0 : Grid (r .y0) b
   pub x1 : Grid (r .x1) c
   pub y1 : Grid (r .y1) d
+
+-- r's sides are a / 256, b / 256, c / 256 and d / 256, wherever they lie
+pub record Sides (r : Rect) (a b c d : ℤ) : Type 0 where
+  pub x0 : Val (r .x0) a 8
+  pub y0 : Val (r .y0) b 8
+  pub x1 : Val (r .x1) c 8
+  pub y1 : Val (r .y1) d 8
 
 -- u lies between a and c: from the lesser on, and before the greater
 abbrev pub Between : ℤ → ℤ → ℤ → Type 0

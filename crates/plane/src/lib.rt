@@ -1,4 +1,4 @@
 //! Points, vectors and rectangles of the page.
 pub mod point;
-pub mod vec2;
 pub mod rect;
+pub mod vec2;

@@ -1,10 +1,11 @@
 //! A rectangle with sides along the axes.
 ghost use mathlib.Core.Path.{_≡_};
-ghost use mathlib.Core.Bool.{true};
-ghost use lib.IntN.{ℤ};
-ghost use lib.Ieee.{binary64, sub, mul};
+ghost use lib.IntN.{ℤ, _-ℤ_, _*ℤ_};
+ghost use lib.Ieee.{binary64, sub};
+ghost use Rattle.std.specs.Numbers.{minZ, maxZ};
+ghost use Rattle.floats.specs.Value.{Val};
 ghost use Rattle.plane.specs.Winding.{Lawful, nonzero};
-ghost use Rattle.plane.specs.Rects.{rect, box, wind, GridRect, RuleOfRect};
+ghost use Rattle.plane.specs.Rects.{rect, area-of, box, wind, GridRect, Sides, RuleOfRect};
 ghost use Rattle.plane.specs.Points.{GridPoint};
 use super::point::Point;
 
@@ -57,7 +58,8 @@ impl Rect {
 
     /// Width times height: negative where just one axis is reversed.
     pub const fn area(&self) -> f64
-        ensures { λ r. ⌜ r ≡ mul binary64 (sub binary64 (now (self .entry) .x1) (now (self .entry) .x0)) (sub binary64 (now (self .entry) .y1) (now (self .entry) .y0)) ⌝ }
+        ensures value { λ r. ⌜ r ≡ area-of (now (self .entry)) ⌝ }
+        ensures grid { λ r. ⌜ ((a b c d : ℤ) → GridRect (now (self .entry)) a b c d → Val r ((c -ℤ a) *ℤ (d -ℤ b)) 16) ⌝ }
     {
         self.width() * self.height()
     }
@@ -68,8 +70,8 @@ impl Rect {
         ensures lawful { λ r. ⌜ Lawful (wind (now (self .entry))) (box (now (self .entry))) pt ⌝ }
         ensures grid { λ r. ⌜ ((a b c d u v : ℤ) → GridRect (now (self .entry)) a b c d → GridPoint pt u v → RuleOfRect a b c d u v r) ⌝ }
     {
-        let Rect { x0, y0, x1, y1 } = self.abs();
-        if x0 <= pt.x && pt.x < x1 && y0 <= pt.y && pt.y < y1 {
+        let b = self.bounding_box();
+        if b.x0 <= pt.x && pt.x < b.x1 && b.y0 <= pt.y && pt.y < b.y1 {
             if (self.x0 < self.x1) != (self.y0 < self.y1) {
                 -1
             } else {
@@ -82,14 +84,16 @@ impl Rect {
 
     /// Whether the rectangle holds `pt`: its winding there is not 0.
     pub fn contains(&self, pt: Point) -> bool
-        ensures { λ r. ⌜ r ≡ nonzero (wind (now (self .entry)) pt) ⌝ }
+        ensures value { λ r. ⌜ r ≡ nonzero (wind (now (self .entry)) pt) ⌝ }
+        ensures grid { λ r. ⌜ ((a b c d u v : ℤ) → GridRect (now (self .entry)) a b c d → GridPoint pt u v → (w : ℤ) × RuleOfRect a b c d u v w × (r ≡ nonzero w)) ⌝ }
     {
         self.winding(pt) != 0
     }
 
     /// The smallest box that holds the rectangle.
     pub const fn bounding_box(&self) -> Rect
-        ensures { λ r. ⌜ r ≡ box (now (self .entry)) ⌝ }
+        ensures value { λ r. ⌜ r ≡ box (now (self .entry)) ⌝ }
+        ensures grid { λ r. ⌜ ((a b c d : ℤ) → GridRect (now (self .entry)) a b c d → Sides r (minZ a c) (minZ b d) (maxZ a c) (maxZ b d)) ⌝ }
     {
         self.abs()
     }

@@ -1,3 +1,4 @@
 pub mod Round
 pub mod Means
 pub mod Threecornered
+pub mod Chosen

@@ -5,7 +5,7 @@ use mathlib.Core.Bool.{Bool, true, false, not, cond}
 use Prim.Native.Nat.{ℕ, zero, suc}
 use native.Mathlib.Omega.{arith}
 use lib.Dec.{T, not-T}
-use lib.IntN.{ℤ, pos, negsuc, _+ℤ_, _-ℤ_, _*ℤ_}
+use lib.IntN.{ℤ, pos, natAbs, _+ℤ_, _-ℤ_, _*ℤ_}
 use lib.Signed.{ltZ, _<ℤ_}
 use lib.Ieee.{Float, nan, inf, fin, binary64, add, sub, mul, neg, lt, le, fits, isNan}
 use lib.Ieee.Scale.{finite}
@@ -13,13 +13,14 @@ use Rattle.std.specs.Floats.{zero as zeroF, withSign}
 use Rattle.std.proofs.num.Compares.{le-of-not-lt, passes}
 use Rattle.floats.specs.Zeros.{Alike}
 use Rattle.floats.proofs.Alike.{zeros-agree}
-use Rattle.floats.proofs.Bounded.{in-add, in-sub, in-mul, in-lt}
+use Rattle.floats.proofs.Bounded.{in-add, in-sub, in-mul, in-abs, in-lt}
 use Rattle.floats.proofs.Sizes.{is-finite, abs-from-zero}
 use Rattle.floats.proofs.Distances.{beyond-x, beyond-y}
 use Rattle.floats.proofs.Sums.{sub-number, add-number, finite-number}
 use Rattle.plane.specs.declared.point.Point.{Point}
 use Rattle.plane.specs.declared.rect.Rect.{Rect}
 use Rattle.plane.specs.Points.{GridPoint, FieldPoint, Same, FiniteBox, InBox}
+use Rattle.plane.specs.Rects.{Sides}
 use Rattle.plane.specs.Vectors.{from-to, dot}
 use Rattle.plane.specs.Winding.{Gives, IsWinding, Lawful}
 use Rattle.plane.proofs.Equals.{to-same, dot-same, alike-refl}
@@ -85,7 +86,7 @@ boxed c p FR FP FQ f P Q t =
       left = le-of-not-lt (p .x) (sub binary64 x r) (finite-number (p .x) P) (sub-number binary64 x r X R) (not-T _ (λ h. bx (inl h) near));
       right = le-of-not-lt (add binary64 x r) (p .x) (add-number binary64 x r X R) (finite-number (p .x) P) (not-T _ (λ h. bx (inr h) near));
       low = le-of-not-lt (p .y) (sub binary64 y r) (finite-number (p .y) Q) (sub-number binary64 y r Y R) (not-T _ (λ h. by (inl h) near));
-      high = le-of-not-lt (add binary64 y r) (p .y) (add-number binary64 y r Y R) (finite-number (p .y) Q) (not-T _ (λ h. by (inr h) near))
+      high = le-of-not-lt (add binary64 y r) (p .y) (add-number binary64 y r Y R) (finite-number (p .y) Q) (not-T _ (λ h. by (inr h) near));
     }
 
 held : (t : Bool) → (cond t (pos 1) (pos 0) ≡ pos 0 → ⊥) → T t
@@ -96,12 +97,12 @@ pub circle-lawful : (c : Circle) (p : Point) → T (fits binary64 (c .radius)) �
 circle-lawful c p FR FP FQ = record {
   small = small (nearer c p);
   same = λ q s. ap (λ (t : Bool). cond t (pos 1) (pos 0)) (same-nearer c p q s);
-  boxed = λ f g n. boxed c p FR FP FQ f (is-finite (p .x) _ _ (g .2 .x .val)) (is-finite (p .y) _ _ (g .2 .y .val)) (held (nearer c p) n)
+  boxed = λ f g n. boxed c p FR FP FQ f (is-finite (p .x) _ _ (g .2 .x .val)) (is-finite (p .y) _ _ (g .2 .y .val)) (held (nearer c p) n);
 }
 
 -- ---- on the grid
 pub circle-rule : (c : Circle) (p : Point) (w a b q u v : ℤ) → w ≡ wind c p → GridCircle c a b q → GridPoint p u v → RuleOfCircle a b q u v w
-circle-rule c p w a b q u v e C P = subst (RuleOfCircle a b q u v) (sym (e ∙ whole)) (rule _ _ )
+circle-rule c p w a b q u v e C P = subst (RuleOfCircle a b q u v) (sym (e ∙ whole)) (rule _ _)
   where
     whole : wind c p ≡ cond (ltZ ((u -ℤ a) *ℤ (u -ℤ a) +ℤ (v -ℤ b) *ℤ (v -ℤ b)) (q *ℤ q)) (pos 1) (pos 0)
     whole =
@@ -115,3 +116,11 @@ circle-rule c p w a b q u v e C P = subst (RuleOfCircle a b q u v) (sym (e ∙ w
         at : (t : Bool) → ltZ d r ≡ t → Gives (d <ℤ r) (pos 1) (cond t (pos 1) (pos 0))
         at true g = record { inside = λ h. refl; outside = λ n. absurd (n (record { lt = passes _ g })) }
         at false g = record { inside = λ h. absurd (subst T g (h .lt)); outside = λ n. refl }
+
+pub circle-sides : (c : Circle) (a b q : ℤ) → GridCircle c a b q → Sides (box c) (a -ℤ pos (natAbs q)) (b -ℤ pos (natAbs q)) (a +ℤ pos (natAbs q)) (b +ℤ pos (natAbs q))
+circle-sides c a b q C = record {
+  x0 = in-sub tt tt (C .center .x) (in-abs (C .radius)) .val;
+  y0 = in-sub tt tt (C .center .y) (in-abs (C .radius)) .val;
+  x1 = in-add tt tt (C .center .x) (in-abs (C .radius)) .val;
+  y1 = in-add tt tt (C .center .y) (in-abs (C .radius)) .val;
+}

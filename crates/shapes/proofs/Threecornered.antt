@@ -10,7 +10,9 @@ use lib.Ieee.{Float, binary64, ofBits, sub, mul, lt, le, eq}
 use lib.Ieee.Fits.{and-l, and-r}
 use Rattle.std.specs.Numbers.{minZ, maxZ}
 use Rattle.std.proofs.num.Compares.{passes}
-use Rattle.floats.specs.Value.{In}
+use native.Mathlib.Omega.{arith}
+use Rattle.std.proofs.shelf.Signed.{ints}
+use Rattle.floats.specs.Value.{In, Val}
 use Rattle.floats.specs.Zeros.{Alike}
 use Rattle.floats.proofs.Alike.{zeros-agree}
 use Rattle.floats.proofs.Compared.{eqZ}
@@ -18,13 +20,14 @@ use Rattle.floats.proofs.Bounded.{in-sub, in-mul, in-lt, in-le, in-eq, in-min, 
 use Rattle.plane.specs.declared.point.Point.{Point}
 use Rattle.plane.specs.declared.rect.Rect.{Rect}
 use Rattle.plane.specs.Points.{GridPoint, Same, InBox}
+use Rattle.plane.specs.Rects.{Sides}
 use Rattle.plane.specs.Vectors.{from-to, cross}
 use Rattle.plane.specs.Winding.{IsWinding, Lawful}
 use Rattle.plane.proofs.Equals.{alike-refl, alike-sym, vec-refl, to-same, cross-same}
 use Rattle.shapes.specs.declared.triangle.Triangle.{Triangle}
 use Rattle.shapes.specs.Corners.{twice-area, RuleOfTriangle}
 use Rattle.shapes.proofs.Means.{turnZ, agreedZ, boxedZ, windZ, whole-rule}
-use Rattle.shapes.specs.Triangles.{zero, area2, box, closed, side, agreed, wind, GridTriangle}
+use Rattle.shapes.specs.Triangles.{zero, half, area2, box, closed, side, agreed, wind, GridTriangle}
 
 -- ---- the laws
 agreed-small : (s t u : Float) → IsWinding (agreed s t u)
@@ -45,9 +48,9 @@ same-closed b p q s =
     let X : Alike (q .x) (p .x) = alike-sym (s .x) in
     let Y : Alike (q .y) (p .y) = alike-sym (s .y) in
     λ i. zeros-agree .of-le (b .x0) (b .x0) (q .x) (p .x) (alike-refl _) X i
-        && (zeros-agree .of-le (q .x) (p .x) (b .x1) (b .x1) X (alike-refl _) i
-        && (zeros-agree .of-le (b .y0) (b .y0) (q .y) (p .y) (alike-refl _) Y i
-        && zeros-agree .of-le (q .y) (p .y) (b .y1) (b .y1) Y (alike-refl _) i))
+    && (zeros-agree .of-le (q .x) (p .x) (b .x1) (b .x1) X (alike-refl _) i
+    && (zeros-agree .of-le (b .y0) (b .y0) (q .y) (p .y) (alike-refl _) Y i
+    && zeros-agree .of-le (q .y) (p .y) (b .y1) (b .y1) Y (alike-refl _) i))
 
 same-side : (a b p q : Point) → Same p q → Alike (side a b q) (side a b p)
 same-side a b p q s = cross-same _ _ _ _ (vec-refl (from-to a b)) (to-same a p q s)
@@ -56,7 +59,7 @@ same-agreed : (s s' t t' u u' : Float) → Alike s s' → Alike t t' → Alike u
 same-agreed s s' t t' u u' p q r =
     let z = alike-refl zero in
     λ i. cond (zeros-agree .of-le zero zero s s' z p i && (zeros-agree .of-le zero zero t t' z q i && zeros-agree .of-le zero zero u u' z r i)) (pos 1)
-      (cond (zeros-agree .of-lt s s' zero zero p z i && (zeros-agree .of-lt t t' zero zero q z i && zeros-agree .of-lt u u' zero zero r z i)) (negsuc 0) (pos 0))
+    (cond (zeros-agree .of-lt s s' zero zero p z i && (zeros-agree .of-lt t t' zero zero q z i && zeros-agree .of-lt u u' zero zero r z i)) (negsuc 0) (pos 0))
 
 closed-in : (b : Rect) (p : Point) → T (closed b p) → InBox b p
 closed-in b p t =
@@ -68,7 +71,7 @@ closed-in b p t =
       left = and-l A (B && (C && D)) t;
       right = and-l B (C && D) (and-r A (B && (C && D)) t);
       low = and-l C D (and-r B (C && D) (and-r A (B && (C && D)) t));
-      high = and-r C D (and-r B (C && D) (and-r A (B && (C && D)) t))
+      high = and-r C D (and-r B (C && D) (and-r A (B && (C && D)) t));
     }
 
 held : (s t : Bool) (w : ℤ) → (cond s (pos 0) (cond t w (pos 0)) ≡ pos 0 → ⊥) → T t
@@ -80,8 +83,8 @@ pub triangle-lawful : (t : Triangle) (p : Point) → Lawful (wind t) (box t) p
 triangle-lawful t p = record {
   small = small (eq (area2 t) zero) (closed (box t) p) _ (agreed-small (side (t .a) (t .b) p) (side (t .b) (t .c) p) (side (t .c) (t .a) p));
   same = λ q s. λ i. cond (eq (area2 t) zero) (pos 0) (cond (same-closed (box t) p q s i)
-    (same-agreed _ _ _ _ _ _ (same-side (t .a) (t .b) p q s) (same-side (t .b) (t .c) p q s) (same-side (t .c) (t .a) p q s) i) (pos 0));
-  boxed = λ f g n. closed-in (box t) p (held (eq (area2 t) zero) (closed (box t) p) _ n)
+      (same-agreed _ _ _ _ _ _ (same-side (t .a) (t .b) p q s) (same-side (t .b) (t .c) p q s) (same-side (t .c) (t .a) p q s) i) (pos 0));
+  boxed = λ f g n. closed-in (box t) p (held (eq (area2 t) zero) (closed (box t) p) _ n);
 }
 
 -- ---- on the grid
@@ -114,3 +117,23 @@ module _ (t : Triangle) (p : Point) (a b c d e f u v : ℤ) (G : GridTriangle t 
 
 pub triangle-rule : (t : Triangle) (p : Point) (w a b c d e f u v : ℤ) → w ≡ wind t p → GridTriangle t a b c d e f → GridPoint p u v → RuleOfTriangle a b c d e f u v w
 triangle-rule t p w a b c d e f u v q G P = subst (RuleOfTriangle a b c d e f u v) (sym (q ∙ wind-whole t p a b c d e f u v G P)) (whole-rule a b c d e f u v)
+
+half-in : In half (pos 1) 1 1
+unfolding ofBits
+half-in = record { val = (false, 1, (refl, refl), refl); size = lit≤ tt }
+
+pub triangle-area : (t : Triangle) (a b c d e f : ℤ) → GridTriangle t a b c d e f → Val (mul binary64 half (area2 t)) (twice-area a b c d e f) 17
+triangle-area t a b c d e f G =
+    subst (λ (z : ℤ). Val (mul binary64 half (area2 t)) z 17) (one-times (twice-area a b c d e f))
+    (in-mul tt tt half-in (side-in (t .a) (t .b) (t .c) a b c d e f (G .at-a) (G .at-b) (G .at-c)) .val)
+  where
+    one-times : (z : ℤ) → pos 1 *ℤ z ≡ z
+    one-times z = omega (arith, ints)
+
+pub triangle-sides : (t : Triangle) (a b c d e f : ℤ) → GridTriangle t a b c d e f → Sides (box t) (minZ a (minZ c e)) (minZ b (minZ d f)) (maxZ a (maxZ c e)) (maxZ b (maxZ d f))
+triangle-sides t a b c d e f G = record {
+  x0 = in-min (G .at-a .x) (in-min (G .at-b .x) (G .at-c .x)) .val;
+  y0 = in-min (G .at-a .y) (in-min (G .at-b .y) (G .at-c .y)) .val;
+  x1 = in-max (G .at-a .x) (in-max (G .at-b .x) (G .at-c .x)) .val;
+  y1 = in-max (G .at-a .y) (in-max (G .at-b .y) (G .at-c .y)) .val;
+}

@@ -2,3 +2,4 @@ pub mod Circles
 pub mod Corners
 pub mod Triangles
 pub mod Marks
+pub mod Specimens

@@ -1,9 +1,10 @@
 //! A circle.
 ghost use mathlib.Core.Path.{_≡_};
-ghost use lib.IntN.{ℤ};
+ghost use lib.IntN.{ℤ, pos, natAbs, _+ℤ_, _-ℤ_};
 ghost use lib.Dec.{T};
 ghost use lib.Ieee.{binary64, fits, mul};
 ghost use Rattle.plane.specs.Points.{GridPoint};
+ghost use Rattle.plane.specs.Rects.{Sides};
 ghost use Rattle.plane.specs.Winding.{Lawful, nonzero};
 ghost use Rattle.shapes.specs.Circles.{circle, box, wind, π, GridCircle, RuleOfCircle};
 use plane::point::Point;
@@ -49,14 +50,16 @@ impl Circle {
 
     /// Whether the circle holds `pt`: its winding there is not 0.
     pub fn contains(&self, pt: Point) -> bool
-        ensures { λ r. ⌜ r ≡ nonzero (wind (now (self .entry)) pt) ⌝ }
+        ensures value { λ r. ⌜ r ≡ nonzero (wind (now (self .entry)) pt) ⌝ }
+        ensures grid { λ r. ⌜ ((a b q u v : ℤ) → GridCircle (now (self .entry)) a b q → GridPoint pt u v → (w : ℤ) × RuleOfCircle a b q u v w × (r ≡ nonzero w)) ⌝ }
     {
         self.winding(pt) != 0
     }
 
     /// The smallest box that holds the circle, each side rounded once.
     pub const fn bounding_box(&self) -> Rect
-        ensures { λ r. ⌜ r ≡ box (now (self .entry)) ⌝ }
+        ensures value { λ r. ⌜ r ≡ box (now (self .entry)) ⌝ }
+        ensures grid { λ r. ⌜ ((a b q : ℤ) → GridCircle (now (self .entry)) a b q → Sides r (a -ℤ pos (natAbs q)) (b -ℤ pos (natAbs q)) (a +ℤ pos (natAbs q)) (b +ℤ pos (natAbs q))) ⌝ }
     {
         let r = self.radius.abs();
         let Point { x, y } = self.center;

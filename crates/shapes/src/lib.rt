@@ -1,4 +1,5 @@
 //! The shapes that a page is marked with.
 pub mod circle;
-pub mod triangle;
 pub mod mark;
+pub mod specimens;
+pub mod triangle;

@@ -1,11 +1,14 @@
 //! A triangle.
 ghost use mathlib.Core.Path.{_≡_};
 ghost use lib.IntN.{ℤ};
-ghost use lib.Ieee.{binary64, mul, ofBits};
+ghost use lib.Ieee.{binary64, mul};
+ghost use Rattle.std.specs.Numbers.{minZ, maxZ};
+ghost use Rattle.floats.specs.Value.{Val};
 ghost use Rattle.plane.specs.Points.{GridPoint};
+ghost use Rattle.plane.specs.Rects.{Sides};
 ghost use Rattle.plane.specs.Winding.{Lawful, nonzero};
-ghost use Rattle.shapes.specs.Triangles.{triangle, box, wind, area2, half, agreed, GridTriangle};
-ghost use Rattle.shapes.specs.Corners.{RuleOfTriangle};
+ghost use Rattle.shapes.specs.Triangles.{triangle, box, wind, area2, half, side as beside, agreed, GridTriangle};
+ghost use Rattle.shapes.specs.Corners.{twice-area, RuleOfTriangle};
 use plane::point::Point;
 use plane::rect::Rect;
 
@@ -30,9 +33,10 @@ impl Triangle {
 
     /// The area, negative where the corners turn the other way.
     pub const fn area(&self) -> f64
-        ensures { λ r. ⌜ r ≡ mul binary64 half (area2 (now (self .entry))) ⌝ }
+        ensures value { λ r. ⌜ r ≡ mul binary64 half (area2 (now (self .entry))) ⌝ }
+        ensures grid { λ r. ⌜ ((a b c d e f : ℤ) → GridTriangle (now (self .entry)) a b c d e f → Val r (twice-area a b c d e f) 17) ⌝ }
     {
-        0.5 * self.b.sub(self.a).cross(self.c.sub(self.a))
+        0.5 * side(self.a, self.b, self.c)
     }
 
     /// What the triangle gives at `pt`: 1 in it or on its edges where its area is positive, -1 strictly in it
@@ -42,16 +46,16 @@ impl Triangle {
         ensures lawful { λ r. ⌜ Lawful (wind (now (self .entry))) (box (now (self .entry))) pt ⌝ }
         ensures grid { λ r. ⌜ ((a b c d e f u v : ℤ) → GridTriangle (now (self .entry)) a b c d e f → GridPoint pt u v → RuleOfTriangle a b c d e f u v r) ⌝ }
     {
-        let Triangle { a, b, c } = *self;
-        if b.sub(a).cross(c.sub(a)) == 0.0 {
+        if side(self.a, self.b, self.c) == 0.0 {
             return 0;
         }
-        let Rect { x0, y0, x1, y1 } = self.bounding_box();
-        if x0 <= pt.x && pt.x <= x1 && y0 <= pt.y && pt.y <= y1 {
-            let ab = b.sub(a).cross(pt.sub(a));
-            let bc = c.sub(b).cross(pt.sub(b));
-            let ca = a.sub(c).cross(pt.sub(c));
-            agreed_sign(ab, bc, ca)
+        let b = self.bounding_box();
+        if b.x0 <= pt.x && pt.x <= b.x1 && b.y0 <= pt.y && pt.y <= b.y1 {
+            agreed_sign(
+                side(self.a, self.b, pt),
+                side(self.b, self.c, pt),
+                side(self.c, self.a, pt),
+            )
         } else {
             0
         }
@@ -59,14 +63,16 @@ impl Triangle {
 
     /// Whether the triangle holds `pt`: its winding there is not 0.
     pub fn contains(&self, pt: Point) -> bool
-        ensures { λ r. ⌜ r ≡ nonzero (wind (now (self .entry)) pt) ⌝ }
+        ensures value { λ r. ⌜ r ≡ nonzero (wind (now (self .entry)) pt) ⌝ }
+        ensures grid { λ r. ⌜ ((a b c d e f u v : ℤ) → GridTriangle (now (self .entry)) a b c d e f → GridPoint pt u v → (w : ℤ) × RuleOfTriangle a b c d e f u v w × (r ≡ nonzero w)) ⌝ }
     {
         self.winding(pt) != 0
     }
 
     /// The smallest box that holds the triangle.
     pub const fn bounding_box(&self) -> Rect
-        ensures { λ r. ⌜ r ≡ box (now (self .entry)) ⌝ }
+        ensures value { λ r. ⌜ r ≡ box (now (self .entry)) ⌝ }
+        ensures grid { λ r. ⌜ ((a b c d e f : ℤ) → GridTriangle (now (self .entry)) a b c d e f → Sides r (minZ a (minZ c e)) (minZ b (minZ d f)) (maxZ a (maxZ c e)) (maxZ b (maxZ d f))) ⌝ }
     {
         Rect::new(
             self.a.x.min(self.b.x.min(self.c.x)),
@@ -75,6 +81,13 @@ impl Triangle {
             self.a.y.max(self.b.y.max(self.c.y)),
         )
     }
+}
+
+// On which side of the line from p to q the point r lies: positive, negative, or 0 on the line.
+const fn side(p: Point, q: Point, r: Point) -> f64
+    ensures { λ s. ⌜ s ≡ beside p q r ⌝ }
+{
+    q.sub(p).cross(r.sub(p))
 }
 
 // 1 if none of the three is negative, -1 if all are, else 0. A zero counts as positive, whichever its sign.

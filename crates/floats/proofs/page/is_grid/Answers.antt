@@ -5,11 +5,11 @@ use Rattle.floats.proofs.page.is_grid.Needs as need
 pub returns-then-size : need.returns-then-size
 returns-then-size c = record {
   only = small-only (c .args .x) (c .abs-size .result) (c .abs-size .ensures .value) (passes _ (c .if-size .taken));
-  every = small-every (c .args .x) (c .abs-size .result) (c .abs-size .ensures .value) (passes _ (c .if-size .taken))
+  every = small-every (c .args .x) (c .abs-size .result) (c .abs-size .ensures .value) (passes _ (c .if-size .taken));
 }
 
 pub returns-else-size : need.returns-else-size
 returns-else-size c = record {
   only = large-only (c .args .x) (c .abs-size .result) (c .abs-size .ensures .value) (passes _ (c .abs-size .ok)) (fails _ (c .if-size .left));
-  every = large-every (c .args .x) (c .abs-size .result) (c .abs-size .ensures .value)
+  every = large-every (c .args .x) (c .abs-size .result) (c .abs-size .ensures .value);
 }

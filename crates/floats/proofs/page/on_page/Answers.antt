@@ -8,5 +8,5 @@ use Rattle.floats.proofs.page.on_page.Needs as need
 pub returns : need.returns
 returns c = record {
   only = λ t. up-to-only (c .args .x) _ 4096 page-end (subst (λ (z : Float). T (le z (ofBits binary64 0x40b0_0000_0000_0000))) (c .abs .ensures .value) t);
-  every = λ u. subst (λ (z : Float). T (le z (ofBits binary64 0x40b0_0000_0000_0000))) (sym (c .abs .ensures .value)) (up-to-every (c .args .x) _ 4096 page-end u)
+  every = λ u. subst (λ (z : Float). T (le z (ofBits binary64 0x40b0_0000_0000_0000))) (sym (c .abs .ensures .value)) (up-to-every (c .args .x) _ 4096 page-end u);
 }

@@ -16,7 +16,7 @@ returns-else-self c =
     let e : _ ≡ wind (c .args .self .now) (c .args .pt) = search needs in
     record { value = e; lawful = rect-lawful _ _; grid = λ a b l d u v. rect-rule _ _ _ a b l d u v e }
 
-pub returns-else-x0-pt : need.returns-else-x0-pt
-returns-else-x0-pt c =
+pub returns-else-b-pt : need.returns-else-b-pt
+returns-else-b-pt c =
     let e : _ ≡ wind (c .args .self .now) (c .args .pt) = search needs in
     record { value = e; lawful = rect-lawful _ _; grid = λ a b l d u v. rect-rule _ _ _ a b l d u v e }

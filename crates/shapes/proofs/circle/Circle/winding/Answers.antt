@@ -12,7 +12,7 @@ returns-then-hypot2-square c =
     record {
       value = e;
       lawful = circle-lawful _ _ (c .square .ensures .held) (passes _ (c .good .1 .0 .1 .1 .0 .1)) (passes _ (c .good .1 .0 .1 .1 .1 .0 .1));
-      grid = λ a b q u v. circle-rule _ _ _ a b q u v e
+      grid = λ a b q u v. circle-rule _ _ _ a b q u v e;
     }
 
 pub returns-else-hypot2-square : need.returns-else-hypot2-square
@@ -21,5 +21,5 @@ returns-else-hypot2-square c =
     record {
       value = e;
       lawful = circle-lawful _ _ (c .square .ensures .held) (passes _ (c .good .1 .0 .1 .1 .0 .1)) (passes _ (c .good .1 .0 .1 .1 .1 .0 .1));
-      grid = λ a b q u v. circle-rule _ _ _ a b q u v e
+      grid = λ a b q u v. circle-rule _ _ _ a b q u v e;
     }

@@ -5,17 +5,17 @@ use Rattle.shapes.specs.Triangles.{wind}
 use Rattle.shapes.proofs.Threecornered.{triangle-lawful, triangle-rule}
 use Rattle.shapes.proofs.triangle.Triangle.winding.Needs as need
 
-pub returns-then-cross : need.returns-then-cross
-returns-then-cross c =
+pub returns-then-side : need.returns-then-side
+returns-then-side c =
     let e : _ ≡ wind (c .args .self .now) (c .args .pt) = search needs in
     record { value = e; lawful = triangle-lawful _ _; grid = λ a b l d m f u v. triangle-rule _ _ _ a b l d m f u v e }
 
-pub returns-then-pt-y1 : need.returns-then-pt-y1
-returns-then-pt-y1 c =
+pub returns-then-pt-b-2 : need.returns-then-pt-b-2
+returns-then-pt-b-2 c =
     let e : _ ≡ wind (c .args .self .now) (c .args .pt) = search needs in
     record { value = e; lawful = triangle-lawful _ _; grid = λ a b l d m f u v. triangle-rule _ _ _ a b l d m f u v e }
 
-pub returns-else-x0-pt : need.returns-else-x0-pt
-returns-else-x0-pt c =
+pub returns-else-b-pt : need.returns-else-b-pt
+returns-else-b-pt c =
     let e : _ ≡ wind (c .args .self .now) (c .args .pt) = search needs in
     record { value = e; lawful = triangle-lawful _ _; grid = λ a b l d m f u v. triangle-rule _ _ _ a b l d m f u v e }
