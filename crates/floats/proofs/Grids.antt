@@ -8,35 +8,42 @@ use lib.Dec.{T, leb→le, le→leb, ltb→lt, lit≤}
 use lib.IntN.{ℤ, pos, negsuc, natAbs, _+ℤ_, _-ℤ_}
 use lib.Signed.{ltZ, leZ}
 use lib.Pow.{pow-add, pow-pos, pow-mono}
-use lib.Ieee.{Float, nan, inf, fin, binary64, ofBits, up, down, add, sub, lt, le, eq, fits, isNan}
+use lib.Ieee.{Float, nan, inf, fin, binary64, ofBits, ofInt, up, down, add, sub, lt, le, eq, fits, isNan}
 use lib.Ieee.Fits.{down-pos, add-fits}
 use lib.Ieee.Scale.{finite}
 use Rattle.std.specs.Floats.{zero as zeroF, withSign}
 use Rattle.std.proofs.num.Compares.{not-above-negative, at-least, le-of-lt, le-of-not-lt, lt-of-le-of-lt}
 use Rattle.std.proofs.shelf.Signed.{ints}
 use Rattle.floats.specs.Value.{signed, Is, Val}
-use Rattle.floats.specs.Page.{GridNumber}
+use Rattle.floats.specs.Page.{GridNumber, UpTo}
+use Rattle.floats.specs.Coarse.{back, coarse as limit}
 use Rattle.floats.proofs.Rounded.{order}
 use Rattle.floats.proofs.Compared.{is-lt, is-le, is-eq}
-use Rattle.floats.proofs.Exactly.{val-add, val-sub}
+use Rattle.floats.proofs.Exactly.{exact, val-add, val-sub}
 use Rattle.floats.proofs.Monotone.{bounds}
 use Rattle.floats.proofs.Sums.{add-mono}
-use Rattle.floats.proofs.Sizes.{abs-is, abs-is-back, abs-from-zero, eq-is}
+use Rattle.floats.proofs.Sizes.{abs-is, abs-is-back, abs-from-zero, eq-is, up-to-only, up-to-every}
 
--- ---- the numbers in the tests
-pub page-end : Is (ofBits binary64 0x40b0_0000_0000_0000) (pos 4096) 1
-unfolding ofBits
-page-end = (false, 4096, (refl, refl), refl)
+-- ---- at most a whole number in size
+whole-float : (n : ℕ) → n < 2 ^ 53 → Is (ofInt binary64 (pos n)) (pos n) 1
+unfolding ofInt
+whole-float n h = exact binary64 (ofInt binary64 (pos n)) (pos n) 0 (omega arith) h (false, n, refl, refl)
 
-pub field-end : Is (ofBits binary64 0x40e0_0000_0000_0000) (pos 32768) 1
-unfolding ofBits
-field-end = (false, 32768, (refl, refl), refl)
+pub sized-only : (x a : Float) (n : ℕ) → a ≡ withSign false x → n < 2 ^ 53 → T (le a (ofInt binary64 (pos n))) → UpTo n x
+sized-only x a n e h t = up-to-only x (ofInt binary64 (pos n)) n (whole-float n h) (subst (λ (z : Float). T (le z (ofInt binary64 (pos n)))) e t)
 
-coarse-is : ofBits binary64 0x42b0_0000_0000_0000 ≡ fin false 1 (pos 44)
+pub sized-every : (x a : Float) (n : ℕ) → a ≡ withSign false x → n < 2 ^ 53 → UpTo n x → T (le a (ofInt binary64 (pos n)))
+sized-every x a n e h u = subst (λ (z : Float). T (le z (ofInt binary64 (pos n)))) (sym e) (up-to-every x (ofInt binary64 (pos n)) n (whole-float n h) u)
+
+-- ---- the numbers in the test
+abbrev infinity : Float
+infinity = ofBits binary64 0x7ff0_0000_0000_0000
+
+coarse-is : limit ≡ fin false 1 (pos 44)
 unfolding ofBits
 coarse-is = refl
 
-infinity-is : ofBits binary64 0x7ff0_0000_0000_0000 ≡ inf false
+infinity-is : infinity ≡ inf false
 unfolding ofBits
 infinity-is = refl
 
@@ -71,11 +78,11 @@ grid-above (fin false (suc m) (negsuc a)) F h t =
     (suc m * 2 ^ j, (false, suc m * 2 ^ j, (refl, omega (arith, ap (λ (z : ℕ). suc m * z) p)), refl))
 
 -- ---- below, a sum with 2 ^ 44 and back keeps just the grid numbers
-abbrev pub there : Float → Float
+abbrev there : Float → Float
 there a = add binary64 a coarse
 
-abbrev pub back : Float → Float
-back a = sub binary64 (there a) coarse
+abbrev again : Float → Float
+again a = sub binary64 (there a) coarse
 
 finite-below : (a : Float) → T (le zeroF a) → T (lt a coarse) → T (finite a)
 finite-below nan z h = absurd (unfold lt in h)
@@ -101,7 +108,7 @@ sum-to a f h = subst (λ (x : Float). T (le (there a) x)) twice-there (add-mono 
 sum-numerator : (a : Float) (n : ℕ) → T (le (there a) (fin false 1 (pos 45))) → Val (there a) (pos n) 8 → n ≤ 2 ^ 53
 sum-numerator a n h v = leb→le n (2 ^ 53) (subst T (is-le (there a) (fin false 1 (pos 45)) (pos n) (pos (2 ^ 53)) (2 ^ 8) (pow-pos 8) v (false, 2 ^ 53, (refl, refl), refl)) h)
 
-pub kept-only : (a : Float) → T (le zeroF a) → T (lt a coarse) → T (eq (back a) a) → GridNumber a
+pub kept-only : (a : Float) → T (le zeroF a) → T (lt a coarse) → T (eq (again a) a) → GridNumber a
 kept-only a z h e =
     let f = finite-below a z h in
     let high = sum-to a f h in
@@ -109,14 +116,14 @@ kept-only a z h e =
     let n = g .0 in
     let N : n ≤ 2 ^ 53 = sum-numerator a n high (g .1) in
     let v = val-sub binary64 (there a) coarse (pos n) (pos (2 ^ 52)) 8 (lit≤ tt) (omega (arith, ints)) (g .1) coarse-val in
-    (pos n -ℤ pos (2 ^ 52), eq-is (back a) a (pos n -ℤ pos (2 ^ 52)) (2 ^ 8) (pow-pos 8) v e)
+    (pos n -ℤ pos (2 ^ 52), eq-is (again a) a (pos n -ℤ pos (2 ^ 52)) (2 ^ 8) (pow-pos 8) v e)
 
-pub kept-every : (a : Float) (n : ℕ) → Val a (pos n) 8 → T (lt a coarse) → T (eq (back a) a)
+pub kept-every : (a : Float) (n : ℕ) → Val a (pos n) 8 → T (lt a coarse) → T (eq (again a) a)
 kept-every a n v h =
     let N : n < 2 ^ 52 = ltb→lt n (2 ^ 52) (subst T (is-lt a coarse (pos n) (pos (2 ^ 52)) (2 ^ 8) (pow-pos 8) v coarse-val) h) in
     let up = val-add binary64 a coarse (pos n) (pos (2 ^ 52)) 8 (lit≤ tt) (omega arith) v coarse-val in
     let down = val-sub binary64 (there a) coarse (pos n +ℤ pos (2 ^ 52)) (pos (2 ^ 52)) 8 (lit≤ tt) (omega (arith, ints)) up coarse-val in
-    subst T (sym (is-eq (back a) a _ (pos n) (2 ^ 8) (pow-pos 8) down v (omega (arith, ints)))) tt
+    subst T (sym (is-eq (again a) a _ (pos n) (2 ^ 8) (pow-pos 8) down v (omega (arith, ints)))) tt
 
 -- ---- the test, for a number x and its size a
 only-size : (x a : Float) → a ≡ withSign false x → GridNumber a → GridNumber x
@@ -135,20 +142,13 @@ number-below nan y h = absurd (unfold lt in h)
 number-below (inf s) y h = unfold isNan in tt
 number-below (fin s m e) y h = unfold isNan in tt
 
--- 2 ^ 44 and the upper infinity, as the test has them
-abbrev limit : Float
-limit = ofBits binary64 0x42b0_0000_0000_0000
-
-abbrev infinity : Float
-infinity = ofBits binary64 0x7ff0_0000_0000_0000
-
-pub small-only : (x a : Float) → a ≡ withSign false x → T (lt a limit) → T (eq (sub binary64 (add binary64 a limit) limit) a) → GridNumber x
+pub small-only : (x a : Float) → a ≡ withSign false x → T (lt a limit) → T (eq (back a) a) → GridNumber x
 small-only x a e h t =
     let below : T (lt a coarse) = subst (λ (z : Float). T (lt a z)) coarse-is h in
     let from : T (le zeroF a) = subst (λ (z : Float). T (le zeroF z)) (sym e) (abs-from-zero x (subst (λ (z : Float). T (not (isNan z))) e (number-below a coarse below))) in
     only-size x a e (kept-only a from below (subst (λ (z : Float). T (eq (sub binary64 (add binary64 a z) z) a)) coarse-is t))
 
-pub small-every : (x a : Float) → a ≡ withSign false x → T (lt a limit) → GridNumber x → T (eq (sub binary64 (add binary64 a limit) limit) a)
+pub small-every : (x a : Float) → a ≡ withSign false x → T (lt a limit) → GridNumber x → T (eq (back a) a)
 small-every x a e h g =
     subst (λ (z : Float). T (eq (sub binary64 (add binary64 a z) z) a)) (sym coarse-is)
     (kept-every a (natAbs (g .0)) (size-val x a e g) (subst (λ (z : Float). T (lt a z)) coarse-is h))

@@ -61,7 +61,7 @@ impl Rect {
         ensures value { λ r. ⌜ r ≡ area-of (now (self .entry)) ⌝ }
         ensures grid { λ r. ⌜ ((a b c d : ℤ) → GridRect (now (self .entry)) a b c d → Val r ((c -ℤ a) *ℤ (d -ℤ b)) 16) ⌝ }
     {
-        self.width() * self.height()
+        self.extent()
     }
 
     /// What the rectangle gives at `pt`: 0 outside its half-open box, else 1, or -1 where just one axis is reversed.
@@ -70,16 +70,7 @@ impl Rect {
         ensures lawful { λ r. ⌜ Lawful (wind (now (self .entry))) (box (now (self .entry))) pt ⌝ }
         ensures grid { λ r. ⌜ ((a b c d u v : ℤ) → GridRect (now (self .entry)) a b c d → GridPoint pt u v → RuleOfRect a b c d u v r) ⌝ }
     {
-        let b = self.bounding_box();
-        if b.x0 <= pt.x && pt.x < b.x1 && b.y0 <= pt.y && pt.y < b.y1 {
-            if (self.x0 < self.x1) != (self.y0 < self.y1) {
-                -1
-            } else {
-                1
-            }
-        } else {
-            0
-        }
+        self.wind(pt)
     }
 
     /// Whether the rectangle holds `pt`: its winding there is not 0.
@@ -96,5 +87,28 @@ impl Rect {
         ensures grid { λ r. ⌜ ((a b c d : ℤ) → GridRect (now (self .entry)) a b c d → Sides r (minZ a c) (minZ b d) (maxZ a c) (maxZ b d)) ⌝ }
     {
         self.abs()
+    }
+
+    // The area, as the definition computes it.
+    const fn extent(&self) -> f64
+        ensures { λ r. ⌜ r ≡ area-of (now (self .entry)) ⌝ }
+    {
+        self.width() * self.height()
+    }
+
+    // The winding, as the definition computes it.
+    fn wind(&self, pt: Point) -> i32
+        ensures { λ r. ⌜ r ≡ wind (now (self .entry)) pt ⌝ }
+    {
+        let b = self.bounding_box();
+        if b.x0 <= pt.x && pt.x < b.x1 && b.y0 <= pt.y && pt.y < b.y1 {
+            if (self.x0 < self.x1) != (self.y0 < self.y1) {
+                -1
+            } else {
+                1
+            }
+        } else {
+            0
+        }
     }
 }

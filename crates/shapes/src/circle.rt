@@ -6,7 +6,7 @@ ghost use lib.Ieee.{binary64, fits, mul};
 ghost use Rattle.plane.specs.Points.{GridPoint};
 ghost use Rattle.plane.specs.Rects.{Sides};
 ghost use Rattle.plane.specs.Winding.{Lawful, nonzero};
-ghost use Rattle.shapes.specs.Circles.{circle, box, wind, π, GridCircle, RuleOfCircle};
+ghost use Rattle.shapes.specs.Circles.{circle, around, box, wind, π, GridCircle, RuleOfCircle};
 use plane::point::Point;
 use plane::rect::Rect;
 use std::f64::consts::PI;
@@ -32,7 +32,7 @@ impl Circle {
     pub const fn area(&self) -> f64
         ensures { λ r. ⌜ r ≡ mul binary64 π (mul binary64 (now (self .entry) .radius) (now (self .entry) .radius)) ⌝ }
     {
-        PI * square(self.radius)
+        PI * (self.radius * self.radius)
     }
 
     /// What the circle gives at `pt`: 1 nearer to the centre than the radius, else 0.
@@ -41,11 +41,7 @@ impl Circle {
         ensures lawful { λ r. ⌜ Lawful (wind (now (self .entry))) (box (now (self .entry))) pt ⌝ }
         ensures grid { λ r. ⌜ ((a b q u v : ℤ) → GridCircle (now (self .entry)) a b q → GridPoint pt u v → RuleOfCircle a b q u v r) ⌝ }
     {
-        if pt.sub(self.center).hypot2() < square(self.radius) {
-            1
-        } else {
-            0
-        }
+        wind_at(self.center, self.radius, pt)
     }
 
     /// Whether the circle holds `pt`: its winding there is not 0.
@@ -61,17 +57,26 @@ impl Circle {
         ensures value { λ r. ⌜ r ≡ box (now (self .entry)) ⌝ }
         ensures grid { λ r. ⌜ ((a b q : ℤ) → GridCircle (now (self .entry)) a b q → Sides r (a -ℤ pos (natAbs q)) (b -ℤ pos (natAbs q)) (a +ℤ pos (natAbs q)) (b +ℤ pos (natAbs q))) ⌝ }
     {
-        let r = self.radius.abs();
-        let Point { x, y } = self.center;
-        Rect::new(x - r, y - r, x + r, y + r)
+        square_about(self.center, self.radius.abs())
     }
 }
 
-// The square. A caller also learns that its format holds `h`, which a proof knows of a parameter and
-// not of a field behind a reference.
-const fn square(h: f64) -> f64
-    ensures value { λ r. ⌜ r ≡ mul binary64 h h ⌝ }
-    ensures held { λ r. ⌜ T (fits binary64 h) ⌝ }
+// The winding, as the definition computes it. A caller also learns that its format holds the radius,
+// which a proof knows of a parameter and not of a field behind a reference.
+fn wind_at(center: Point, radius: f64, pt: Point) -> i32
+    ensures value { λ r. ⌜ r ≡ wind (circle center radius) pt ⌝ }
+    ensures held { λ r. ⌜ T (fits binary64 radius) ⌝ }
 {
-    h * h
+    if pt.sub(center).hypot2() < radius * radius {
+        1
+    } else {
+        0
+    }
+}
+
+// The box with the sides at the distance `r` from a centre.
+const fn square_about(center: Point, r: f64) -> Rect
+    ensures { λ b. ⌜ b ≡ around (center .x) (center .y) r ⌝ }
+{
+    Rect::new(center.x - r, center.y - r, center.x + r, center.y + r)
 }

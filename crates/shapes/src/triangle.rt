@@ -36,7 +36,7 @@ impl Triangle {
         ensures value { λ r. ⌜ r ≡ mul binary64 half (area2 (now (self .entry))) ⌝ }
         ensures grid { λ r. ⌜ ((a b c d e f : ℤ) → GridTriangle (now (self .entry)) a b c d e f → Val r (twice-area a b c d e f) 17) ⌝ }
     {
-        0.5 * side(self.a, self.b, self.c)
+        self.signed_area()
     }
 
     /// What the triangle gives at `pt`: 1 in it or on its edges where its area is positive, -1 strictly in it
@@ -46,19 +46,7 @@ impl Triangle {
         ensures lawful { λ r. ⌜ Lawful (wind (now (self .entry))) (box (now (self .entry))) pt ⌝ }
         ensures grid { λ r. ⌜ ((a b c d e f u v : ℤ) → GridTriangle (now (self .entry)) a b c d e f → GridPoint pt u v → RuleOfTriangle a b c d e f u v r) ⌝ }
     {
-        if side(self.a, self.b, self.c) == 0.0 {
-            return 0;
-        }
-        let b = self.bounding_box();
-        if b.x0 <= pt.x && pt.x <= b.x1 && b.y0 <= pt.y && pt.y <= b.y1 {
-            agreed_sign(
-                side(self.a, self.b, pt),
-                side(self.b, self.c, pt),
-                side(self.c, self.a, pt),
-            )
-        } else {
-            0
-        }
+        self.wind(pt)
     }
 
     /// Whether the triangle holds `pt`: its winding there is not 0.
@@ -74,12 +62,45 @@ impl Triangle {
         ensures value { λ r. ⌜ r ≡ box (now (self .entry)) ⌝ }
         ensures grid { λ r. ⌜ ((a b c d e f : ℤ) → GridTriangle (now (self .entry)) a b c d e f → Sides r (minZ a (minZ c e)) (minZ b (minZ d f)) (maxZ a (maxZ c e)) (maxZ b (maxZ d f))) ⌝ }
     {
+        self.corner_box()
+    }
+
+    // The area, as the definition computes it.
+    const fn signed_area(&self) -> f64
+        ensures { λ r. ⌜ r ≡ mul binary64 half (area2 (now (self .entry))) ⌝ }
+    {
+        0.5 * side(self.a, self.b, self.c)
+    }
+
+    // The box, as the definition computes it.
+    const fn corner_box(&self) -> Rect
+        ensures { λ r. ⌜ r ≡ box (now (self .entry)) ⌝ }
+    {
         Rect::new(
             self.a.x.min(self.b.x.min(self.c.x)),
             self.a.y.min(self.b.y.min(self.c.y)),
             self.a.x.max(self.b.x.max(self.c.x)),
             self.a.y.max(self.b.y.max(self.c.y)),
         )
+    }
+
+    // The winding, as the definition computes it.
+    fn wind(&self, pt: Point) -> i32
+        ensures { λ r. ⌜ r ≡ wind (now (self .entry)) pt ⌝ }
+    {
+        if side(self.a, self.b, self.c) == 0.0 {
+            return 0;
+        }
+        let b = self.corner_box();
+        if b.x0 <= pt.x && pt.x <= b.x1 && b.y0 <= pt.y && pt.y <= b.y1 {
+            agreed_sign(
+                side(self.a, self.b, pt),
+                side(self.b, self.c, pt),
+                side(self.c, self.a, pt),
+            )
+        } else {
+            0
+        }
     }
 }
 
