@@ -25,7 +25,7 @@ use Rattle.floats.proofs.Sums.{add-mono}
 use Rattle.floats.proofs.Sizes.{abs-is, abs-is-back, abs-from-zero, eq-is, up-to-only, up-to-every}
 
 -- ---- at most a whole number in size
-whole-float : (n : ℕ) → n < 2 ^ 53 → Is (ofInt binary64 (pos n)) (pos n) 1
+pub whole-float : (n : ℕ) → n < 2 ^ 53 → Is (ofInt binary64 (pos n)) (pos n) 1
 unfolding ofInt
 whole-float n h = exact binary64 (ofInt binary64 (pos n)) (pos n) 0 (omega arith) h (false, n, refl, refl)
 

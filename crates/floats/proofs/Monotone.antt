@@ -133,14 +133,14 @@ exponents a l h = elim (order a l) [
 ]
 
 -- a place of the format is a power of two times its smallest
-place : (l : ℕ) (e : ℤ) → down e ≤ 2 ^ l → (j : ℕ) × (up e * 2 ^ l ≡ 2 ^ j * down e)
+pub place : (l : ℕ) (e : ℤ) → down e ≤ 2 ^ l → (j : ℕ) × (up e * 2 ^ l ≡ 2 ^ j * down e)
 place l (pos a) h = (a + l, omega (arith, pow-add 2 a l))
 place l (negsuc a) h =
     let g : suc a ≤ l = exponents (suc a) l h in
     let e : l - suc a + suc a ≡ l = omega arith in
     (l - suc a, omega (arith, pow-add 2 (l - suc a) (suc a), ap (λ (z : ℕ). 2 ^ z) e))
 
-rescale : (x : Float) (s : Bool) (a c b d : ℕ) → 0 < c → a * d ≡ b * c → HasValue x s a c → HasValue x s b d
+pub rescale : (x : Float) (s : Bool) (a c b d : ℕ) → 0 < c → a * d ≡ b * c → HasValue x s a c → HasValue x s b d
 rescale nan s a c b d C h v = v
 rescale (inf t) s a c b d C h v = v
 rescale (fin t m e) s a c b d C h v = (v .0, eq-of-mul-eq-mul-right c C (m * up e * d) (b * down e) (omega (arith, ap (λ (z : ℕ). z * d) (v .1), ap (λ (z : ℕ). z * down e) h)))

@@ -1,0 +1,4 @@
+pub mod Refusals
+pub mod Uppermost
+pub mod Verdicts
+pub mod Sittings
