@@ -1,0 +1,9 @@
+pub mod Numbers
+pub mod Scaled
+pub mod Sixths
+pub mod Constant
+pub mod Ranks
+pub mod Most
+pub mod Quarters
+pub mod Axes
+pub mod Sound

@@ -1,0 +1,4 @@
+pub mod Powers
+pub mod SixthRoots
+pub mod Angles
+pub mod Laws
