@@ -1,3 +1,12 @@
+pub mod UnitSizes
+pub mod BitFields
+pub mod NearestRoots
+pub mod RootSteps
+pub mod RootGuesses
+pub mod RootBits
+pub mod RootCases
+pub mod RootDefined
+pub mod RootExamples
 pub mod Numbers
 pub mod Scaled
 pub mod Sixths

@@ -1,3 +1,4 @@
+pub mod Roots
 pub mod Powers
 pub mod SixthRoots
 pub mod Angles

@@ -2,4 +2,5 @@
 pub mod laws;
 pub mod powers;
 pub mod sixth_root;
+pub mod sqrt;
 pub mod trig;
