@@ -1,4 +1,8 @@
-//! Points, vectors and rectangles of the page.
+//! The plane: points, vectors, rectangles, paths, and what every shape answers.
 pub mod point;
-pub mod rect;
 pub mod vec2;
+pub mod rect;
+pub mod bezpath;
+pub mod fault;
+pub mod cursor;
+pub mod shape;
