@@ -1,11 +1,11 @@
 -- Sixth powers, and the least sixteenth whose sixth power is enough. Assumes nothing.
 use mathlib.Core.Path.{_≡_, refl, sym, ap, _∙_, subst}
 use mathlib.Core.Logic.{_⊎_, inl, inr}
-use mathlib.Core.Bool.{Bool, true, false, not, _&&_}
+use mathlib.Core.Bool.{Bool, true, false, not, _&&_, cond}
 use Prim.Native.Nat.{ℕ, zero, suc, _+_, _*_, _^_, _≤_, _<_}
-use native.Mathlib.Nat.{pow-succ', pow-zero, pow-le-pow-left, zero-mul, mul-le-mul-right, le-of-mul-le-mul-right, eq-of-mul-eq-mul-right}
+use native.Mathlib.Nat.{pow-succ', pow-zero, pow-le-pow-left, zero-mul, add-zero, mul-le-mul-right, le-of-mul-le-mul-right, eq-of-mul-eq-mul-right}
 use native.Mathlib.Omega.{arith}
-use lib.Dec.{T, lit<, lit≤, leb→le, le→leb}
+use lib.Dec.{T, leb, lit<, lit≤, leb→le, le→leb, nleb→lt}
 use lib.IntN.{ℤ, pos}
 use lib.Signed.{leZ}
 use Rattle.std.proofs.shelf.Signed.{ints}
@@ -20,7 +20,7 @@ use Rattle.floats.proofs.Monotone.{rescale}
 use Rattle.floats.proofs.Sizes.{whole-is}
 use Rattle.floats.proofs.Bounded.{in-mul}
 use Rattle.floats.proofs.Grids.{whole-float}
-use Rattle.elementary.specs.SixthRoots.{LeastSixth, most, scale, in-range, SixthRoot}
+use Rattle.elementary.specs.SixthRoots.{LeastSixth, most, scale, in-range, SixthRoot, first-from, sixteenth as sixteenth-float, need-of, sixth-root-of}
 use Rattle.elementary.proofs.Numbers.{no-number}
 use Rattle.elementary.proofs.Scaled.{Ceiling, parts, no-parts, times-power, ceil-reads}
 
@@ -167,3 +167,54 @@ need-fits v N F e z h =
     let o = ranged v z h in
     let r = needed v (o .0) (o .1) (o .2) F (o .3) (o .4) in
     need-most (o .0) (o .1) N (o .4) (subst (Ceiling (o .0 * 2 ^ 24) (o .1)) (sym (e ∙ r .1)) (r .2))
+
+-- ---- the function
+-- r is the least number from 1 to b whose sixth power is at least N
+abbrev Least : ℕ → ℕ → ℕ → Type 0
+Least b N r = (1 ≤ r) × (r ≤ b) × (N ≤ r ^ 6) × ((j : ℕ) → j < r → 1 ≤ j → j ^ 6 < N)
+
+first-step : (more k N : ℕ) → 1 ≤ k → ((j : ℕ) → j < k → 1 ≤ j → j ^ 6 < N) → (((j : ℕ) → j < suc k → 1 ≤ j → j ^ 6 < N) → Least (suc k + more) N (first-from more (suc k) N)) → Least (k + suc more) N (first-from (suc more) k N)
+first-step more k N o l next = at (leb N (k ^ 6)) refl
+  where
+    before : k ^ 6 < N → (j : ℕ) → j < suc k → 1 ≤ j → j ^ 6 < N
+    before below j h p = elim (order j k) [
+      | inl g ↦ l j g p
+      | inr q ↦ elim q [ inl e ↦ subst (λ (z : ℕ). z ^ 6 < N) (sym e) below | inr g ↦ absurd (omega arith) ]
+    ]
+
+    at : (t : Bool) → leb N (k ^ 6) ≡ t → Least (k + suc more) N (cond t k (first-from more (suc k) N))
+    at true e = (o, omega arith, leb→le N (k ^ 6) (subst T (sym e) tt), l)
+    at false e = let r = next (before (nleb→lt N (k ^ 6) (subst (λ (b : Bool). T (not b)) (sym e) tt))) in (r .0, omega (arith, r .1), r .2, r .3)
+
+-- the first number from k on is the least one, where none before k does
+first-least : (more k N : ℕ) → 1 ≤ k → N ≤ (k + more) ^ 6 → ((j : ℕ) → j < k → 1 ≤ j → j ^ 6 < N) → Least (k + more) N (first-from more k N)
+first-least zero k N o h l = (o, omega arith, subst (λ (z : ℕ). N ≤ z ^ 6) (add-zero k) h, l)
+first-least (suc more) k N o h l = first-step more k N o l (λ b. first-least more (suc k) N (omega arith) (subst (λ (z : ℕ). N ≤ z ^ 6) (omega arith) h) b)
+
+least-once : (N j k : ℕ) → 1 ≤ j → 1 ≤ k → N ≤ j ^ 6 → N ≤ k ^ 6 → ((i : ℕ) → i < j → 1 ≤ i → i ^ 6 < N) → ((i : ℕ) → i < k → 1 ≤ i → i ^ 6 < N) → j ≡ k
+least-once N j k oj ok hj hk lj lk = elim (order j k) [
+  | inl g ↦ absurd (omega (arith, lk j g oj))
+  | inr o ↦ elim o [ inl e ↦ e | inr g ↦ absurd (omega (arith, lj k g ok)) ]
+]
+
+pub in-range-defined : (v : Float) (N k : ℕ) → N ≡ need-of v → N ≤ 2 ^ 60 → T (le (ofBits binary64 0) v) → T (le v most) → (1 ≤ k) × (k ≤ 1024) → N ≤ k ^ 6 → ((j : ℕ) → j < k → 1 ≤ j → j ^ 6 < N)
+    → mul binary64 (ofInt binary64 (pos k)) sixteenth-float ≡ sixth-root-of v
+unfolding sixth-root-of
+in-range-defined v N k e m z h b o l =
+    let r = first-least 1023 1 N (omega arith) m (λ j h' o'. absurd (omega arith)) in
+    let same : k ≡ first-from 1023 1 N = least-once N k (first-from 1023 1 N) (b .0) (r .0) o (r .2) l (r .3) in
+    ap (λ (n : ℕ). mul binary64 (ofInt binary64 (pos n)) sixteenth-float) (same ∙ ap (first-from 1023 1) e)
+    ∙ sym (ap (λ (t : Bool). cond t (mul binary64 (ofInt binary64 (pos (first-from 1023 1 (need-of v)))) sixteenth-float) (ofBits binary64 0x7ff8_0000_0000_0000)) (both-true (le (ofBits binary64 0) v) (le v most) z h))
+  where
+    both-true : (s t : Bool) → T s → T t → (s && t) ≡ true
+    both-true true true p q = refl
+    both-true true false p q = absurd q
+    both-true false t p q = absurd p
+
+pub out-of-range-defined : (v : Float) → T (not (in-range v)) → ofBits binary64 0x7ff8_0000_0000_0000 ≡ sixth-root-of v
+unfolding sixth-root-of
+out-of-range-defined v t = of (in-range v) t
+  where
+    of : (b : Bool) → T (not b) → ofBits binary64 0x7ff8_0000_0000_0000 ≡ cond b (mul binary64 (ofInt binary64 (pos (first-from 1023 1 (need-of v)))) sixteenth-float) (ofBits binary64 0x7ff8_0000_0000_0000)
+    of true h = absurd h
+    of false h = refl

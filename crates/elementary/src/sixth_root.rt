@@ -3,7 +3,7 @@ ghost use mathlib.Core.Path.{_≡_};
 ghost use Prim.Native.Nat.{ℕ, _^_, _≤_, _<_};
 ghost use lib.Ieee.{binary64, mul, toUnsigned};
 ghost use Rattle.std.specs.Floats.{ceil};
-ghost use Rattle.elementary.specs.SixthRoots.{SixthRoot, scale};
+ghost use Rattle.elementary.specs.SixthRoots.{SixthRoot, scale, sixth-root-of};
 use std::num::saturating_f64_to_u64;
 
 // The largest number whose root is taken, and what a number is multiplied by: 16 to the sixth.
@@ -16,7 +16,8 @@ const SIXTEENTH: f64 = 0.0625;
 /// The sixth root of `v`, rounded up to a sixteenth: k/16 for the least whole k from 1 to 1024 with
 /// k⁶ ≥ v × 2²⁴, for a `v` from 0 to 2³⁶. Not-a-number for any other `v`.
 pub fn sixth_root(v: f64) -> f64
-    ensures { λ r. ⌜ SixthRoot v r ⌝ }
+    ensures root { λ r. ⌜ SixthRoot v r ⌝ }
+    ensures defined { λ r. ⌜ r ≡ sixth-root-of v ⌝ }
 {
     if 0.0 <= v && v <= MOST {
         least_root(scaled_up(v)) as f64 * SIXTEENTH

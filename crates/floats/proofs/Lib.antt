@@ -11,3 +11,4 @@ pub mod Sizes
 pub mod Grids
 pub mod Stated
 pub mod Ring
+pub mod Canonical

@@ -22,6 +22,10 @@ use Rattle.plane.specs.Points.{GridPoint, FieldPoint, Same, FiniteBox, InBox}
 use Rattle.plane.specs.Winding.{Gives, IsWinding, Lawful}
 use Rattle.plane.specs.Rects.{rect, area-of, box, half-open, unlike, wind, GridRect, Sides, Between, turn, RuleOfRect}
 use Rattle.plane.proofs.Equals.{alike-sym}
+use Rattle.plane.proofs.Formed.{checked-well}
+use Rattle.plane.specs.Paths.{WellDrawn}
+use Rattle.plane.specs.Rects.{path, drawn, finite-sides}
+use Rattle.std.specs.declared.result.Result.the-variants.{Ok}
 
 -- ---- the laws
 small : (r : Rect) (p : Point) → IsWinding (wind r p)
@@ -127,3 +131,7 @@ rect-sides r a b c d R = record {
   x1 = in-max (R .x0) (R .x1) .val;
   y1 = in-max (R .y0) (R .y1) .val;
 }
+
+-- ---- the path
+pub rect-formed : (r : Rect) (t : Float) → WellDrawn (drawn r t)
+rect-formed r t = checked-well t (finite-sides r) (Ok (path r)) tt

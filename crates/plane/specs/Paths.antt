@@ -1,8 +1,10 @@
 -- Paths, the paths that are well formed, and the steps of a cursor along one. Assumes nothing.
 use mathlib.Core.Path.{_≡_}
-use mathlib.Core.Bool.{Bool, true, false}
+use mathlib.Core.Bool.{Bool, true, false, cond, _&&_}
 use mathlib.Core.List.{List, [], _∷_}
 use lib.Dec.{T}
+use lib.Ieee.{Float, binary64, ofBits, lt}
+use Rattle.std.specs.Floats.{finite}
 use Rattle.std.specs.declared.option.Option.{Option}
 use Rattle.std.specs.declared.option.Option.the-variants.{None, Some}
 use Rattle.std.specs.declared.result.Result.{Result}
@@ -11,6 +13,7 @@ use Rattle.plane.specs.declared.point.Point.{Point}
 use Rattle.plane.specs.declared.bezpath.PathEl.{PathEl}
 use Rattle.plane.specs.declared.bezpath.PathEl.the-variants.{MoveTo, LineTo, QuadTo, CurveTo, ClosePath}
 use Rattle.plane.specs.declared.fault.ShapeFault.{ShapeFault}
+use Rattle.plane.specs.declared.fault.ShapeFault.the-variants.{Tolerance, NotFinite}
 
 -- A path is well formed if it is a run of parts: each a `MoveTo`, then any number of `LineTo`, `QuadTo` and `CurveTo`, then at most one `ClosePath`.
 -- `begun` says whether a part is begun and not yet closed: then anything may follow; else only a `MoveTo` may.
@@ -46,3 +49,12 @@ Answers {C} rest d (Err e) = d ≡ Err e
 abbrev pub Steps : List PathEl → Option PathEl → List PathEl → Type 0
 Steps [] r after = (r ≡ None) × (after ≡ [])
 Steps (x ∷ xs) r after = (r ≡ Some x) × (after ≡ xs)
+
+-- ---- refusals that come before any path
+-- a tolerance is finite, and above 0
+abbrev pub tolerable : Float → Bool
+tolerable t = finite t && lt (ofBits binary64 0) t
+
+-- TOLERANCE first, then NOT FINITE, unless all parameters are finite, and then what is drawn
+abbrev pub checked : Float → Bool → Drawn → Drawn
+checked t ok d = cond (tolerable t) (cond ok d (Err NotFinite)) (Err Tolerance)

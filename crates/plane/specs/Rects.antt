@@ -3,13 +3,21 @@ use mathlib.Core.Path.{_≡_}
 use mathlib.Core.Bool.{Bool, true, false, not, _&&_, cond, Bool·beq}
 use lib.IntN.{ℤ, pos, negsuc}
 use lib.Signed.{ltZ, _<ℤ_, _≤ℤ_}
-use lib.Ieee.{Float, binary64, sub, mul, lt, le}
-use Rattle.std.specs.Floats.{least, most}
+use mathlib.Core.List.{List, [], _∷_}
+use lib.ListN.{drop}
+use lib.Ieee.{Float, binary64, ofBits, add, sub, mul, lt, le}
+use Rattle.std.specs.Floats.{withSign, finite, least, most}
+use Rattle.std.specs.declared.result.Result.the-variants.{Ok}
 use Rattle.std.specs.Numbers.{minZ, maxZ}
 use Rattle.floats.specs.Value.{Val}
 use Rattle.floats.specs.Page.{Grid}
 use Rattle.plane.specs.declared.point.Point.{Point}
 use Rattle.plane.specs.declared.rect.Rect.{Rect}
+use Rattle.plane.specs.declared.rect.RectPath.{RectPath}
+use Rattle.plane.specs.declared.bezpath.PathEl.{PathEl}
+use Rattle.plane.specs.declared.bezpath.PathEl.the-variants.{MoveTo, LineTo, ClosePath}
+use Rattle.plane.specs.Vectors.{point}
+use Rattle.plane.specs.Paths.{Drawn, checked}
 use Rattle.plane.specs.Winding.{Gives}
 
 abbrev pub rect : Float → Float → Float → Float → Rect
@@ -33,6 +41,31 @@ unlike s t = not (Bool·beq s t)
 
 abbrev pub wind : Rect → Point → ℤ
 wind r p = cond (half-open (box r) p) (cond (unlike (lt (r .x0) (r .x1)) (lt (r .y0) (r .y1))) (negsuc 0) (pos 1)) (pos 0)
+
+-- ---- length and path
+-- twice the sizes of width and height
+abbrev pub length-of : Rect → Float
+length-of r = mul binary64 (ofBits binary64 0x4000_0000_0000_0000) (add binary64 (withSign false (sub binary64 (r .x1) (r .x0))) (withSign false (sub binary64 (r .y1) (r .y0))))
+
+abbrev pub finite-sides : Rect → Bool
+finite-sides r = finite (r .x0) && (finite (r .y0) && (finite (r .x1) && finite (r .y1)))
+
+-- from the first corner along the first side
+abbrev pub path : Rect → List PathEl
+path r =
+    MoveTo (point (r .x0) (r .y0))
+    ∷ LineTo (point (r .x1) (r .y0))
+    ∷ LineTo (point (r .x1) (r .y1))
+    ∷ LineTo (point (r .x0) (r .y1))
+    ∷ ClosePath
+    ∷ []
+
+abbrev pub drawn : Rect → Float → Drawn
+drawn r t = checked t (finite-sides r) (Ok (path r))
+
+-- what a cursor that has given `ix` elements has still to give
+abbrev pub rest : RectPath → List PathEl
+rest c = drop (c .ix) (path (c .rect))
 
 -- ---- on the grid
 -- r's corners are (a / 256, b / 256) and (c / 256, d / 256), and lie in the field

@@ -1,6 +1,6 @@
 //! A point of the plane.
 ghost use mathlib.Core.Path.{_≡_};
-ghost use Rattle.plane.specs.Vectors.{point, from-to};
+ghost use Rattle.plane.specs.Vectors.{point, from-to, long, finite-point};
 use super::vec2::Vec2;
 
 /// A point of the plane, in staff spaces.
@@ -28,5 +28,19 @@ impl Point {
             x: self.x - other.x,
             y: self.y - other.y,
         }
+    }
+
+    /// The distance from `other`.
+    pub fn distance(self, other: Point) -> f64
+        ensures { λ r. ⌜ r ≡ long (from-to other self) ⌝ }
+    {
+        self.sub(other).hypot()
+    }
+
+    /// Whether both coordinates are finite.
+    pub const fn is_finite(self) -> bool
+        ensures { λ r. ⌜ r ≡ finite-point self ⌝ }
+    {
+        self.x.is_finite() && self.y.is_finite()
     }
 }

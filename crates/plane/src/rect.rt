@@ -5,9 +5,15 @@ ghost use lib.Ieee.{binary64, sub};
 ghost use Rattle.std.specs.Numbers.{minZ, maxZ};
 ghost use Rattle.floats.specs.Value.{Val};
 ghost use Rattle.plane.specs.Winding.{Lawful, nonzero};
-ghost use Rattle.plane.specs.Rects.{rect, area-of, box, wind, GridRect, Sides, RuleOfRect};
+ghost use Rattle.plane.specs.Rects.{rect, area-of, length-of, finite-sides, box, wind, GridRect, Sides, RuleOfRect};
+ghost use Rattle.plane.specs.Rects.{box as rect-box, wind as rect-wind, drawn as rect-drawn, rest as path-rest};
 ghost use Rattle.plane.specs.Points.{GridPoint};
+use super::bezpath::PathEl;
+use super::cursor::Cursor;
+use super::fault::ShapeFault;
 use super::point::Point;
+use super::shape::Shape;
+use super::shape::is_tolerance;
 
 /// A rectangle by two opposite corners. It may be reversed: nothing keeps x0 below x1, or y0 below y1.
 #[derive(Clone, Copy)]
@@ -89,6 +95,20 @@ impl Rect {
         self.abs()
     }
 
+    /// The length of the boundary: twice the sizes of width and height.
+    pub const fn perimeter(&self) -> f64
+        ensures { λ r. ⌜ r ≡ length-of (now (self .entry)) ⌝ }
+    {
+        2.0 * (self.width().abs() + self.height().abs())
+    }
+
+    /// Whether all four sides are finite.
+    pub const fn is_finite(&self) -> bool
+        ensures { λ r. ⌜ r ≡ finite-sides (now (self .entry)) ⌝ }
+    {
+        self.x0.is_finite() && self.y0.is_finite() && self.x1.is_finite() && self.y1.is_finite()
+    }
+
     // The area, as the definition computes it.
     const fn extent(&self) -> f64
         ensures { λ r. ⌜ r ≡ area-of (now (self .entry)) ⌝ }
@@ -110,5 +130,58 @@ impl Rect {
         } else {
             0
         }
+    }
+}
+
+/// A cursor on a rectangle's path.
+#[derive(Clone, Copy)]
+pub struct RectPath {
+    rect: Rect,
+    ix: u8,
+}
+
+pub impl Cursor for RectPath as RectCursor {
+    ghost rest = { path-rest };
+
+    fn next(&mut self) -> Option<PathEl> {
+        let r = self.rect;
+        let el = match self.ix {
+            0 => PathEl::MoveTo(Point::new(r.x0, r.y0)),
+            1 => PathEl::LineTo(Point::new(r.x1, r.y0)),
+            2 => PathEl::LineTo(Point::new(r.x1, r.y1)),
+            3 => PathEl::LineTo(Point::new(r.x0, r.y1)),
+            4 => PathEl::ClosePath,
+            _ => return None,
+        };
+        self.ix += 1;
+        Some(el)
+    }
+}
+
+pub impl Shape for Rect as RectShape {
+    type Path = RectPath;
+
+    ghost wind = { rect-wind };
+
+    ghost frame = { rect-box };
+
+    ghost drawn = { rect-drawn };
+
+    fn winding(&self, pt: Point) -> i32 {
+        self.wind(pt)
+    }
+
+    fn bounding_box(&self) -> Rect {
+        self.abs()
+    }
+
+    fn path_elements(&self, tolerance: f64) -> Result<RectPath, ShapeFault> {
+        if !is_tolerance(tolerance) {
+            return Err(ShapeFault::Tolerance);
+        }
+        if !self.is_finite() {
+            return Err(ShapeFault::NotFinite);
+        }
+        Ok(RectPath { rect: *self, ix: 0 })
     }
 }

@@ -6,7 +6,7 @@ ghost use Rattle.plane.specs.declared.point.Point.{Point};
 ghost use Rattle.plane.specs.declared.rect.Rect.{Rect};
 ghost use Rattle.plane.specs.Points.{FieldPoint, Same, FiniteBox, InBox};
 ghost use Rattle.plane.specs.Winding.{IsWinding};
-ghost use Rattle.plane.specs.Paths.{Drawn, WellDrawn, Answers};
+ghost use Rattle.plane.specs.Paths.{Drawn, WellDrawn, Answers, tolerable};
 use super::cursor::Cursor;
 use super::fault::ShapeFault;
 use super::point::Point;
@@ -50,4 +50,11 @@ pub trait Shape: Copy {
     /// A cursor on the path at this tolerance. It refuses 1 TOLERANCE, 2 NOT FINITE and 3 TOO FINE.
     fn path_elements(&self, tolerance: f64) -> Result<Self::Path, ShapeFault>
         ensures { λ r. ⌜ Answers (Path·Cursor .rest) (drawn (now (self .entry)) tolerance) r ⌝ };
+}
+
+/// Whether `t` is a tolerance: finite and above 0.
+pub fn is_tolerance(t: f64) -> bool
+    ensures { λ r. ⌜ r ≡ tolerable t ⌝ }
+{
+    t.is_finite() && 0.0 < t
 }

@@ -1,6 +1,7 @@
 //! A vector of the plane.
 ghost use mathlib.Core.Path.{_≡_};
-ghost use Rattle.plane.specs.Vectors.{vec2 as vector, dot as dotted, cross as crossed};
+ghost use Rattle.plane.specs.Vectors.{vec2 as vector, dot as dotted, cross as crossed, long};
+use elementary::sqrt::sqrt;
 
 /// A vector of the plane, in staff spaces.
 #[derive(Clone, Copy)]
@@ -38,5 +39,12 @@ impl Vec2 {
         ensures { λ r. ⌜ r ≡ dotted self self ⌝ }
     {
         self.dot(self)
+    }
+
+    /// The length.
+    pub fn hypot(self) -> f64
+        ensures { λ r. ⌜ r ≡ long self ⌝ }
+    {
+        sqrt(self.hypot2())
     }
 }

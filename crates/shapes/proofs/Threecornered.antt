@@ -22,12 +22,15 @@ use Rattle.plane.specs.declared.rect.Rect.{Rect}
 use Rattle.plane.specs.Points.{GridPoint, Same, InBox}
 use Rattle.plane.specs.Rects.{Sides}
 use Rattle.plane.specs.Vectors.{from-to, cross}
+use Rattle.std.specs.declared.result.Result.the-variants.{Ok}
+use Rattle.plane.specs.Paths.{WellDrawn}
+use Rattle.plane.proofs.Formed.{checked-well}
 use Rattle.plane.specs.Winding.{IsWinding, Lawful}
 use Rattle.plane.proofs.Equals.{alike-refl, alike-sym, vec-refl, to-same, cross-same}
 use Rattle.shapes.specs.declared.triangle.Triangle.{Triangle}
 use Rattle.shapes.specs.Corners.{twice-area, RuleOfTriangle}
 use Rattle.shapes.proofs.Means.{turnZ, agreedZ, boxedZ, windZ, whole-rule}
-use Rattle.shapes.specs.Triangles.{zero, half, area2, box, closed, side, agreed, wind, GridTriangle}
+use Rattle.shapes.specs.Triangles.{zero, half, area2, box, closed, side, agreed, wind, GridTriangle, path, all-finite, drawn}
 
 -- ---- the laws
 agreed-small : (s t u : Float) → IsWinding (agreed s t u)
@@ -137,3 +140,7 @@ triangle-sides t a b c d e f G = record {
   x1 = in-max (G .at-a .x) (in-max (G .at-b .x) (G .at-c .x)) .val;
   y1 = in-max (G .at-a .y) (in-max (G .at-b .y) (G .at-c .y)) .val;
 }
+
+-- ---- the path
+pub triangle-formed : (t : Triangle) (e : Float) → WellDrawn (drawn t e)
+triangle-formed t e = checked-well e (all-finite t) (Ok (path t)) tt

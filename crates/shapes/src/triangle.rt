@@ -7,10 +7,16 @@ ghost use Rattle.floats.specs.Value.{Val};
 ghost use Rattle.plane.specs.Points.{GridPoint};
 ghost use Rattle.plane.specs.Rects.{Sides};
 ghost use Rattle.plane.specs.Winding.{Lawful, nonzero};
-ghost use Rattle.shapes.specs.Triangles.{triangle, box, wind, area2, half, side as beside, agreed, GridTriangle};
+ghost use Rattle.shapes.specs.Triangles.{triangle, box, wind, area2, half, side as beside, agreed, length-of, all-finite, GridTriangle};
+ghost use Rattle.shapes.specs.Triangles.{box as triangle-box, wind as triangle-wind, drawn as triangle-drawn, rest as path-rest};
 ghost use Rattle.shapes.specs.Corners.{twice-area, RuleOfTriangle};
+use plane::bezpath::PathEl;
+use plane::cursor::Cursor;
+use plane::fault::ShapeFault;
 use plane::point::Point;
 use plane::rect::Rect;
+use plane::shape::Shape;
+use plane::shape::is_tolerance;
 
 /// A triangle by its corners. Its area is positive where a, b, c turn as (0, 0), (1, 0), (0, 1) do.
 #[derive(Clone, Copy)]
@@ -65,6 +71,20 @@ impl Triangle {
         self.corner_box()
     }
 
+    /// The length of the boundary.
+    pub fn perimeter(&self) -> f64
+        ensures { λ r. ⌜ r ≡ length-of (now (self .entry)) ⌝ }
+    {
+        self.a.distance(self.b) + self.b.distance(self.c) + self.c.distance(self.a)
+    }
+
+    /// Whether all corners are finite.
+    pub const fn is_finite(&self) -> bool
+        ensures { λ r. ⌜ r ≡ all-finite (now (self .entry)) ⌝ }
+    {
+        self.a.is_finite() && self.b.is_finite() && self.c.is_finite()
+    }
+
     // The area, as the definition computes it.
     const fn signed_area(&self) -> f64
         ensures { λ r. ⌜ r ≡ mul binary64 half (area2 (now (self .entry))) ⌝ }
@@ -101,6 +121,61 @@ impl Triangle {
         } else {
             0
         }
+    }
+}
+
+/// A cursor on a triangle's path.
+#[derive(Clone, Copy)]
+pub struct TrianglePath {
+    triangle: Triangle,
+    ix: u8,
+}
+
+pub impl Cursor for TrianglePath as TriangleCursor {
+    ghost rest = { path-rest };
+
+    fn next(&mut self) -> Option<PathEl> {
+        let t = self.triangle;
+        let el = match self.ix {
+            0 => PathEl::MoveTo(t.a),
+            1 => PathEl::LineTo(t.b),
+            2 => PathEl::LineTo(t.c),
+            3 => PathEl::ClosePath,
+            _ => return None,
+        };
+        self.ix += 1;
+        Some(el)
+    }
+}
+
+pub impl Shape for Triangle as TriangleShape {
+    type Path = TrianglePath;
+
+    ghost wind = { triangle-wind };
+
+    ghost frame = { triangle-box };
+
+    ghost drawn = { triangle-drawn };
+
+    fn winding(&self, pt: Point) -> i32 {
+        self.wind(pt)
+    }
+
+    fn bounding_box(&self) -> Rect {
+        self.corner_box()
+    }
+
+    fn path_elements(&self, tolerance: f64) -> Result<TrianglePath, ShapeFault> {
+        if !is_tolerance(tolerance) {
+            return Err(ShapeFault::Tolerance);
+        }
+        if !self.is_finite() {
+            return Err(ShapeFault::NotFinite);
+        }
+        Ok(TrianglePath {
+            triangle: *self,
+            ix: 0,
+        })
     }
 }
 
