@@ -1,0 +1,2 @@
+//! Pieces of ellipses, from which curved paths are made.
+pub mod arc;
