@@ -15,8 +15,8 @@ use Rattle.std.proofs.shelf.Lists.{getD-default}
 use Rattle.std.proofs.str.Laws.{order}
 use Rattle.plane.specs.declared.point.Point.{Point}
 use Rattle.plane.specs.Winding.{nonzero}
-use Rattle.shapes.specs.declared.mark.Mark.{Mark}
-use Rattle.shapes.specs.Marks.{wind}
+use Rattle.marks.specs.declared.mark.Mark.{Mark}
+use Rattle.marks.specs.Marks.{wind}
 use Rattle.exam.specs.Uppermost.{Misses, Uppermost, under, topmost}
 
 -- ---- the test of a winding

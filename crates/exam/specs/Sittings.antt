@@ -8,7 +8,7 @@ use Rattle.std.specs.declared.alloc.AllocError.{AllocError}
 use Rattle.std.specs.declared.result.Result.{Result}
 use Rattle.std.specs.declared.result.Result.the-variants.{Ok, Err}
 use Rattle.std.specs.Of.Vec.{vec-items, vec-len, vec-cap}
-use Rattle.shapes.specs.declared.mark.Mark.{Mark}
+use Rattle.marks.specs.declared.mark.Mark.{Mark}
 use Rattle.exam.specs.declared.refusal.Refusal.{Refusal}
 use Rattle.exam.specs.declared.points.Verdict.{Verdict}
 use Rattle.exam.specs.declared.sitting.Tally.{Tally}

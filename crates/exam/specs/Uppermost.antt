@@ -10,8 +10,8 @@ use Rattle.std.specs.declared.option.Option.the-variants.{None, Some}
 use Rattle.std.specs.Places.{At, Every}
 use Rattle.plane.specs.declared.point.Point.{Point}
 use Rattle.plane.specs.Winding.{nonzero}
-use Rattle.shapes.specs.declared.mark.Mark.{Mark}
-use Rattle.shapes.specs.Marks.{wind}
+use Rattle.marks.specs.declared.mark.Mark.{Mark}
+use Rattle.marks.specs.Marks.{wind}
 
 -- the mark gives 0 at p
 abbrev pub Misses : Point → Mark → Type 0

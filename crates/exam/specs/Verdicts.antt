@@ -9,7 +9,7 @@ use Rattle.std.specs.declared.result.Result.{Result}
 use Rattle.std.specs.declared.result.Result.the-variants.{Ok, Err}
 use Rattle.floats.specs.Page.{GridNumber, OnPage}
 use Rattle.plane.specs.declared.point.Point.{Point}
-use Rattle.shapes.specs.declared.mark.Mark.{Mark}
+use Rattle.marks.specs.declared.mark.Mark.{Mark}
 use Rattle.exam.specs.declared.refusal.Refusal.{Refusal}
 use Rattle.exam.specs.declared.refusal.Refusal.the-variants.{OffGrid, OffPage}
 use Rattle.exam.specs.declared.points.Key.{Key}

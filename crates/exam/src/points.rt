@@ -6,7 +6,7 @@ use super::refusal::Refusal;
 use floats::page::is_grid;
 use floats::page::on_page;
 use plane::point::Point;
-use shapes::mark::Mark;
+use marks::mark::Mark;
 
 /// Where a set point should lie.
 #[derive(Clone, Copy)]

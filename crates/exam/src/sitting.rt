@@ -8,7 +8,7 @@ use super::points::SetPoint;
 use super::points::Verdict;
 use super::points::assess;
 use super::refusal::Refusal;
-use shapes::mark::Mark;
+use marks::mark::Mark;
 use std::alloc::AllocError;
 use std::alloc::Global;
 

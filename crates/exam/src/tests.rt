@@ -14,7 +14,7 @@ use super::sitting::TallyDebug;
 use super::sitting::TallyPartialEq;
 use plane::point::Point;
 use plane::rect::Rect;
-use shapes::mark::Mark;
+use marks::mark::Mark;
 use std::test::*;
 
 const LOWER: Mark = Mark::Rect(Rect {

@@ -10,7 +10,7 @@ use exam::points::SetPoint;
 use plane::point::Point;
 use plane::rect::Rect;
 use shapes::circle::Circle;
-use shapes::mark::Mark;
+use marks::mark::Mark;
 use shapes::triangle::Triangle;
 use std::fmt;
 use std::str::SplitWhitespace;

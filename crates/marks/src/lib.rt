@@ -1,0 +1,2 @@
+//! Marks on a page: any one of the shapes.
+pub mod mark;
