@@ -22,7 +22,7 @@ after k left p3 = record {
   «angle_step» = k .«angle_step»;
   left = left;
   p0 = p3;
-  angle0 = next-angle k
+  angle0 = next-angle k;
 }
 
 pub next-curve : (k : ArcPath) (n : ℕ) (el : PathEl) (p3 : Vec2) → 0 < n → p3 ≡ next-point k → el ≡ curve-from k (next-angle k) p3 → Steps (curves n k) (Some el) (curves (n - 1) (after k (n - 1) p3))
@@ -35,3 +35,7 @@ next-curve k (suc m) el p3 h e q =
 pub curves-formed : (n : ℕ) (k : ArcPath) (els : List PathEl) → T (formed true els) → T (formed true (curves n k ++ els))
 curves-formed zero k els h = h
 curves-formed (suc n) k els h = curves-formed n (moved-on k n) els h
+
+pub curves-alone : (n : ℕ) (k : ArcPath) → T (formed true (curves n k))
+curves-alone zero k = tt
+curves-alone (suc n) k = curves-alone n (moved-on k n)

@@ -89,7 +89,7 @@ moved-on k left = record {
   «angle_step» = k .«angle_step»;
   left = left;
   p0 = next-point k;
-  angle0 = next-angle k
+  angle0 = next-angle k;
 }
 
 -- that many curves from where the cursor stands
@@ -110,7 +110,7 @@ begun a t = record {
   «angle_step» = div binary64 (a .«sweep_angle») (divided (stretched a t) (a .«sweep_angle»));
   left = toUnsigned 32 (divided (stretched a t) (a .«sweep_angle»));
   p0 = sampled (a .radii) (a .«x_rotation») (a .«start_angle»);
-  angle0 = a .«start_angle»
+  angle0 = a .«start_angle»;
 }
 
 -- TOO FINE where 1.1163 × the larger radius in tolerances is above 2 ^ 36, or not-a-number

@@ -51,7 +51,10 @@ impl Arc {
         ensures { λ r. ⌜ r ≡ first-point (now (self .entry)) ⌝ }
     {
         let angle = self.start_angle + self.sweep_angle * 0.0;
-        add(self.center, sample_ellipse(self.radii, self.x_rotation, angle))
+        add(
+            self.center,
+            sample_ellipse(self.radii, self.x_rotation, angle),
+        )
     }
 
     /// A cursor on the curves of the arc at this tolerance. It refuses as too fine where 1.1163 times

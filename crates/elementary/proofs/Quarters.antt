@@ -66,6 +66,9 @@ read-back (fin false m e) false N h v =
     let q : m * up e / down e ≡ N = ap (λ (z : ℕ). z / down e) (omega (arith, v .1)) ∙ mul-div-left N (down-pos e) in
     ap (λ (z : ℕ). pos (min z (2 ^ 63 - 1))) q ∙ ap pos (omega arith)
 
+pub is-read : (y : Float) (k : ℤ) → natAbs k < 2 ^ 63 → Is y k 1 → toSigned 63 y ≡ k
+is-read y k h v = read-back y (v .0) (v .1) (subst (λ (n : ℕ). n < 2 ^ 63) (ap natAbs (v .3) ∙ abs-signed (v .0) (v .1)) h) (v .2) ∙ sym (v .3)
+
 -- ---- of at most 2 ^ 20
 pub record Rounded (x : Float) (n : ℤ) (c : ℕ) : Type 0 where
   pub k : ℤ

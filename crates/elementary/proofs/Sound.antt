@@ -5,16 +5,17 @@ use mathlib.Core.List.{List, [], _∷_}
 use Prim.Native.Nat.{ℕ, zero, suc, _+_, _*_, _/_, _%_, _^_, _≤_, _<_, compare, Ordering·lt, Ordering·eq, Ordering·gt}
 use native.Mathlib.Omega.{arith}
 use lib.Dec.{T, ltb, leb, eqb, lit≤}
-use lib.IntN.{ℤ, pos}
+use lib.IntN.{ℤ, pos, natAbs, +ℤ-idr}
 use lib.Ieee.{Float, nan, inf, fin, binary64, ofBits, add, sub, mul, div, neg, lt, le, eq}
 use lib.Ieee.Scale.{finite}
-use Rattle.std.specs.Floats.{withSign}
-use Rattle.floats.specs.Value.{Is}
+use Rattle.std.specs.Floats.{withSign, roundEven}
+use Rattle.floats.specs.Value.{Is, Val}
+use Rattle.floats.proofs.Exactly.{val-add}
 use Rattle.floats.proofs.Sizes.{up-to-only}
 use Rattle.elementary.specs.Angles.{one, half-pi, half-pi-rest, two-over-pi, quarters, left-over, folded, series, near-sine, near-cosine, turned, quarter, largest-angle, sin-cos}
 use Rattle.elementary.specs.Laws.{Taken, NearestWhole, Angles}
 use Rattle.elementary.proofs.Axes.{at-nought, right, above, left, below}
-use Rattle.elementary.proofs.Quarters.{Rounded, rounded}
+use Rattle.elementary.proofs.Quarters.{Rounded, rounded, is-read}
 use Rattle.elementary.proofs.Most.{Most, most-finite, most-more, most-mul, most-add, most-sub, most-neg, most-div, most-tested}
 
 -- ---- bounds of the constants
@@ -65,16 +66,29 @@ left-over-most th k h g = most-sub tt (most-sub tt (most-more tt h) (most-mul tt
 product-most : (th : Float) → Taken th → Most (mul binary64 th two-over-pi) 20
 product-most th t = most-mul tt (taken-most th t) two-over-pi-most
 
+zero-val : Val (ofBits binary64 0) (pos 0) 0
+unfolding ofBits
+zero-val = (false, 0, (refl, refl), refl)
+
+-- a zero added to a whole number changes nothing but a zero's sign
+unsigned : (x : Float) (k : ℤ) → natAbs k ≤ 2 ^ 20 → Is x k 1 → Is (add binary64 x (ofBits binary64 0)) k 1
+unsigned x k h v =
+    subst (λ (z : ℤ). Is (add binary64 x (ofBits binary64 0)) z 1) (+ℤ-idr k)
+    (val-add binary64 x (ofBits binary64 0) k (pos 0) 0 (omega arith) (subst (λ (z : ℤ). natAbs z < 2 ^ 53) (sym (+ℤ-idr k)) (omega arith)) v zero-val)
+
 nearest : (th : Float) (n : ℤ) (c : ℕ) → 0 < c → Taken th → Is (mul binary64 th two-over-pi) n c → NearestWhole th n c
 nearest th n c C t v =
-    let r = rounded (mul binary64 th two-over-pi) n c C (product-most th t) v in
-    record { k = r .k; value = r .value; fits-type = r .read; near = r .near }
+    let x = mul binary64 th two-over-pi in
+    let r = rounded x n c C (product-most th t) v in
+    let whole = unsigned (roundEven binary64 x) (r .k) (r .small) (r .value) in
+    record { k = r .k; value = whole; fits-type = is-read (quarters th) (r .k) (omega (arith, r .small)) whole; near = r .near }
 
 quarters-most : (th : Float) → Taken th → Most (quarters th) 20
 quarters-most th t =
+    let x = mul binary64 th two-over-pi in
     let u = product-most th t .most in
-    let r = rounded (mul binary64 th two-over-pi) (u .0) (u .1) (u .2) (product-most th t) (u .3) in
-    record { most = (r .k, 1, omega arith, r .value, omega (arith, r .small)) }
+    let r = rounded x (u .0) (u .1) (u .2) (product-most th t) (u .3) in
+    record { most = (r .k, 1, omega arith, unsigned (roundEven binary64 x) (r .k) (r .small) (r .value), omega (arith, r .small)) }
 
 -- ---- finite answers
 neg-finite : (x : Float) → T (finite x) → T (finite (neg x))

@@ -40,9 +40,9 @@ abbrev pub not-a-number : Float
 not-a-number = ofBits binary64 0x7ff8_0000_0000_0000
 
 -- ---- the turn to the first quarter
--- how many quarter turns th is nearest to, halves to even
+-- how many quarter turns th is nearest to, halves to even: a whole number, whose 0 has no sign
 abbrev pub quarters : Float → Float
-quarters th = roundEven binary64 (mul binary64 th two-over-pi)
+quarters th = add binary64 (roundEven binary64 (mul binary64 th two-over-pi)) (ofBits binary64 0)
 
 -- what is left of th after k quarter turns
 abbrev pub left-over : Float → Float → Float

@@ -21,7 +21,7 @@ pub fn sin_cos(th: f64) -> (f64, f64)
     ensures { λ r. ⌜ r ≡ sin-cos th ⌝ }
 {
     if th.abs() <= LARGEST {
-        let k = (th * FRAC_2_PI).round_ties_even();
+        let k = quarters_of(th);
         let r = reduced(th, k);
         by_quarter(quarter(k), near_sin(r), near_cos(r))
     } else {
@@ -35,6 +35,14 @@ pub fn tan(th: f64) -> f64
 {
     let (s, c) = sin_cos(th);
     s / c
+}
+
+// The whole number of quarter turns nearest to `th`, halves to even. A whole number 0 has no sign, so
+// a zero is made +0.
+fn quarters_of(th: f64) -> f64
+    ensures { λ r. ⌜ r ≡ quarters th ⌝ }
+{
+    (th * FRAC_2_PI).round_ties_even() + 0.0
 }
 
 // What is left of `th` after `k` quarter turns.

@@ -5,8 +5,8 @@ ghost use Rattle.exam.specs.Verdicts.{asked, Assessed};
 use super::refusal::Refusal;
 use floats::page::is_grid;
 use floats::page::on_page;
-use plane::point::Point;
 use marks::mark::Mark;
+use plane::point::Point;
 
 /// Where a set point should lie.
 #[derive(Clone, Copy)]

@@ -12,9 +12,9 @@ use super::sitting::Sitting;
 use super::sitting::Tally;
 use super::sitting::TallyDebug;
 use super::sitting::TallyPartialEq;
+use marks::mark::Mark;
 use plane::point::Point;
 use plane::rect::Rect;
-use marks::mark::Mark;
 use std::test::*;
 
 const LOWER: Mark = Mark::Rect(Rect {

@@ -31,7 +31,7 @@ canonical x k i I B v =
       y = y;
       held = round-fits binary64 (v .0) (v .1) (2 ^ i);
       number = is-finite y k (2 ^ i) w;
-      equal = subst T (sym (is-eq x y k k (2 ^ i) (pow-pos i) v w refl)) tt
+      equal = subst T (sym (is-eq x y k k (2 ^ i) (pow-pos i) v w refl)) tt;
     }
 
 -- ---- equal floats x and y, against a z

@@ -4,3 +4,4 @@ pub mod Winding
 pub mod Rects
 pub mod Faults
 pub mod Paths
+pub mod Affines

@@ -118,7 +118,7 @@ boxed c p f g t =
       left = subst T (sym (le-equal (p .x) (u .y) (box c .x0) P (f .x0) (u .equal))) (b .left);
       right = subst T (sym (equal-le (p .x) (u .y) (box c .x1) P (f .x1) (u .equal))) (b .right);
       low = subst T (sym (le-equal (p .y) (v .y) (box c .y0) Q (f .y0) (v .equal))) (b .low);
-      high = subst T (sym (equal-le (p .y) (v .y) (box c .y1) Q (f .y1) (v .equal))) (b .high)
+      high = subst T (sym (equal-le (p .y) (v .y) (box c .y1) Q (f .y1) (v .equal))) (b .high);
     }
 
 held : (t : Bool) → (cond t (pos 1) (pos 0) ≡ pos 0 → ⊥) → T t
@@ -129,7 +129,7 @@ pub circle-lawful : (c : Circle) (p : Point) → Lawful (wind c) (box c) p
 circle-lawful c p = record {
   small = small (nearer c p);
   same = λ q s. ap (λ (t : Bool). cond t (pos 1) (pos 0)) (same-nearer c p q s);
-  boxed = λ f g n. boxed c p f g (held (nearer c p) n)
+  boxed = λ f g n. boxed c p f g (held (nearer c p) n);
 }
 
 -- ---- the path

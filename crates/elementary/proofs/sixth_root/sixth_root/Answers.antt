@@ -18,7 +18,7 @@ returns-then-v-2 c =
     let r = c .least-root .ensures in
     record {
       root = in-range-root (c .args .v) _ _ F e z h (r .bounds) (r .enough) (r .least);
-      defined = in-range-defined (c .args .v) _ _ e (need-fits (c .args .v) _ F e z h) z h (r .bounds) (r .enough) (r .least)
+      defined = in-range-defined (c .args .v) _ _ e (need-fits (c .args .v) _ F e z h) z h (r .bounds) (r .enough) (r .least);
     }
 
 pub returns-else-v : need.returns-else-v

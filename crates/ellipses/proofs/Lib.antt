@@ -1,0 +1,2 @@
+pub mod Oval
+pub mod Turns

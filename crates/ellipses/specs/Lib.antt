@@ -1,0 +1,3 @@
+pub mod Ellipses
+pub mod Lengths
+pub mod Ovals

@@ -1,0 +1,5 @@
+//! Ellipses.
+pub mod ellipse;
+pub mod laws;
+mod length;
+pub mod path;
