@@ -1,0 +1,5 @@
+pub mod Halves
+pub mod Repairs
+pub mod Nearest
+pub mod Corners
+pub mod Chosen

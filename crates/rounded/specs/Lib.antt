@@ -1,0 +1,4 @@
+pub mod Radii
+pub mod Roundings
+pub mod Shrunk
+pub mod Specimens
