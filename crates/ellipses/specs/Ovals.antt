@@ -26,7 +26,7 @@ whole-arc l = record {
   radii = radii-of (l .inner);
   «start_angle» = ofBits binary64 0;
   «sweep_angle» = mul binary64 (ofBits binary64 0x4000_0000_0000_0000) pi;
-  «x_rotation» = tilt-of (l .inner)
+  «x_rotation» = tilt-of (l .inner);
 }
 
 abbrev pub path : Ellipse → Float → List PathEl

@@ -1,4 +1,5 @@
 //! The plane: points, vectors, rectangles, paths, and what every shape answers.
+pub mod affine;
 pub mod bezpath;
 pub mod cursor;
 pub mod fault;
@@ -6,4 +7,3 @@ pub mod point;
 pub mod rect;
 pub mod shape;
 pub mod vec2;
-pub mod affine;
