@@ -3,3 +3,4 @@ pub mod Repairs
 pub mod Nearest
 pub mod Corners
 pub mod Chosen
+pub mod Outlined

@@ -2,3 +2,4 @@ pub mod Radii
 pub mod Roundings
 pub mod Shrunk
 pub mod Specimens
+pub mod Outlines
