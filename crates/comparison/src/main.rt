@@ -1,5 +1,7 @@
 //! Compares the shapes and the affine maps with a list of cases on the standard input. Each case that differs is
 //! written, and the count comes last.
+#![tactic(auto)]
+
 mod agree;
 mod read;
 mod report;

@@ -1,4 +1,6 @@
 //! Ellipses.
+#![tactic(auto)]
+
 pub mod ellipse;
 pub mod laws;
 mod length;

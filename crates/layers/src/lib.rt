@@ -1,4 +1,6 @@
 //! Layers over any shape: moves, placings by a move, and coverings of one shape by another.
+#![tactic(auto)]
+
 pub mod covering;
 pub mod fault;
 pub mod moves;

@@ -1,6 +1,8 @@
 //! What the library answers at the limits: the ends of the half-open box, both zeros, not-a-number,
 //! infinities, the smallest numbers, and the ends of the page and of the field. The answers are
 //! worked out from the rules.
+#![tactic(auto)]
+
 #[cfg(test)]
 mod moves;
 #[cfg(test)]

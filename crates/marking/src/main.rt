@@ -1,5 +1,7 @@
 //! Marks an examination in choral engraving. Each line of the standard input lays a mark on the page or sets a point
 //! on it with its key; each is answered on a line of its own, and the count comes last.
+#![tactic(auto)]
+
 mod paper;
 mod read;
 

@@ -1,4 +1,6 @@
 //! The plane: points, vectors, rectangles, paths, and what every shape answers.
+#![tactic(auto)]
+
 pub mod affine;
 pub mod bezpath;
 pub mod cursor;

@@ -1,3 +1,5 @@
 //! What a list of cases asks of the shapes and the affine maps, and what they answer.
+#![tactic(auto)]
+
 pub mod answer;
 pub mod question;

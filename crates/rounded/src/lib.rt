@@ -1,4 +1,6 @@
 //! Rectangles with rounded corners, such as a syllable's frame.
+#![tactic(auto)]
+
 pub mod path;
 pub mod rounded_rect;
 pub mod rounded_rect_radii;

@@ -1,4 +1,6 @@
 //! The shapes that a page is marked with.
+#![tactic(auto)]
+
 pub mod circle;
 pub mod specimens;
 pub mod triangle;

@@ -1,4 +1,6 @@
 //! Sheets of marks: a table of marks with their moves, and the calls that alter and question it.
+#![tactic(auto)]
+
 pub mod calls;
 pub mod draw;
 pub mod fault;
