@@ -6,7 +6,7 @@ use Rattle.cases.proofs.number.read.Goals as goal
 pub returns-then-eq : goal.returns-then-eq
 returns-then-eq c = of_nan c.args.word.now (c.if-eq.ensures.0 refl)
 
-pub returns-else-is-nan : goal.returns-else-is-nan
-returns-else-is-nan c =
-    let told = c.in-ok-sixteen-digits.ensures in
-    of_pattern c.args.word.now c.in-ok-sixteen-digits.field-0 _ told.0 told.1 c.f64-from-bits-with-nan-x.ensures (sym c.is-nan.ensures.value ∙ c.if-is-nan.false)
+pub returns-else-is_nan : goal.returns-else-is_nan
+returns-else-is_nan c =
+    let told = c.in_ok-sixteen_digits.ensures in
+    of_pattern c.args.word.now c.in_ok-sixteen_digits.field-0 _ told.0 told.1 c.f64_from_bits_with_nan-x.ensures (sym c.is_nan.ensures.value ∙ c.if-is_nan.false)

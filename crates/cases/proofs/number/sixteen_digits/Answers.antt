@@ -4,11 +4,11 @@ use Rattle.cases.specs.Texts.{hex_digit, hexadecimal}
 use Rattle.cases.proofs.Digits.{room, more_below, more_read, all_read}
 use Rattle.cases.proofs.number.sixteen_digits.Goals as goal
 
-pub overflow-mul-value : goal.overflow-mul-value
-overflow-mul-value c = omega (arith, room c.loop-byte.value c.loop-byte.byte-index c.loop-byte.invariant.0 (omega arith))
+pub overflow_mul-value : goal.overflow_mul-value
+overflow_mul-value c = omega (arith, room c.loop-byte.value c.loop-byte.byte-index c.loop-byte.invariant.0 (omega arith))
 
-pub overflow-add-value : goal.overflow-add-value
-overflow-add-value c = omega (arith, c.in-ok-value.ensures.0, room c.loop-byte.value c.loop-byte.byte-index c.loop-byte.invariant.0 (omega arith))
+pub overflow_add-value : goal.overflow_add-value
+overflow_add-value c = omega (arith, c.in_ok-value.ensures.0, room c.loop-byte.value c.loop-byte.byte-index c.loop-byte.invariant.0 (omega arith))
 
 pub loop-byte-init : goal.loop-byte-init
 unfolding hexadecimal
@@ -16,8 +16,8 @@ loop-byte-init c = (omega arith, refl)
 
 pub loop-byte-preserved : goal.loop-byte-preserved
 loop-byte-preserved c =
-    let told = c.in-ok-value.ensures in
-    let byte : get_or c.args.word.now c.loop-byte.byte-index 0 ≡ hex_digit c.in-ok-value.field-0 = cc (c.as-bytes-byte-items.ensures.value, told.1) in
+    let told = c.in_ok-value.ensures in
+    let byte : get_or c.args.word.now c.loop-byte.byte-index 0 ≡ hex_digit c.in_ok-value.field-0 = cc (c.as_bytes-byte-items.ensures.value, told.1) in
     (more_below _ _ _ c.loop-byte.invariant.0 told.0, more_read _ _ _ _ (omega arith) told.0 byte c.loop-byte.invariant.1)
 
 pub returns : goal.returns

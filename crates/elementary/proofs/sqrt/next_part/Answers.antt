@@ -2,20 +2,20 @@ use Rattle.std.proofs.Common.{arith}
 use Rattle.elementary.proofs.RootSteps as step
 use Rattle.elementary.proofs.sqrt.next_part.Goals as goal
 
-pub overflow-add-root : goal.overflow-add-root
-overflow-add-root c = omega (arith, step.room c.args.part.root c.args.part.rest c.args.base c.args.upper c.args.lower c.requires.whole c.requires.enough c.requires.digits.0 c.requires.digits.1 c.requires.small.0 c.requires.small.1)
+pub overflow_add-root : goal.overflow_add-root
+overflow_add-root c = omega (arith, step.room c.args.part.root c.args.part.rest c.args.base c.args.upper c.args.lower c.requires.whole c.requires.enough c.requires.digits.0 c.requires.digits.1 c.requires.small.0 c.requires.small.1)
 
-pub overflow-mul-square : goal.overflow-mul-square
-overflow-mul-square c = omega (arith, step.room c.args.part.root c.args.part.rest c.args.base c.args.upper c.args.lower c.requires.whole c.requires.enough c.requires.digits.0 c.requires.digits.1 c.requires.small.0 c.requires.small.1)
+pub overflow_mul-square : goal.overflow_mul-square
+overflow_mul-square c = omega (arith, step.room c.args.part.root c.args.part.rest c.args.base c.args.upper c.args.lower c.requires.whole c.requires.enough c.requires.digits.0 c.requires.digits.1 c.requires.small.0 c.requires.small.1)
 
-pub overflow-mul-result : goal.overflow-mul-result
-overflow-mul-result c = omega (arith, step.room c.args.part.root c.args.part.rest c.args.base c.args.upper c.args.lower c.requires.whole c.requires.enough c.requires.digits.0 c.requires.digits.1 c.requires.small.0 c.requires.small.1)
+pub overflow_mul-result : goal.overflow_mul-result
+overflow_mul-result c = omega (arith, step.room c.args.part.root c.args.part.rest c.args.base c.args.upper c.args.lower c.requires.whole c.requires.enough c.requires.digits.0 c.requires.digits.1 c.requires.small.0 c.requires.small.1)
 
-pub overflow-add-result : goal.overflow-add-result
-overflow-add-result c = omega (arith, step.room c.args.part.root c.args.part.rest c.args.base c.args.upper c.args.lower c.requires.whole c.requires.enough c.requires.digits.0 c.requires.digits.1 c.requires.small.0 c.requires.small.1, c.if-square-rest.false)
+pub overflow_add-result : goal.overflow_add-result
+overflow_add-result c = omega (arith, step.room c.args.part.root c.args.part.rest c.args.base c.args.upper c.args.lower c.requires.whole c.requires.enough c.requires.digits.0 c.requires.digits.1 c.requires.small.0 c.requires.small.1, c.if-square-rest.false)
 
-pub overflow-sub-result-else-square-rest-3 : goal.overflow-sub-result-else-square-rest-3
-overflow-sub-result-else-square-rest-3 c = omega (arith, step.less_room c.args.part.root c.args.part.rest c.args.base c.args.upper c.args.lower c.requires.whole c.requires.enough c.requires.digits.0 c.requires.digits.1 c.if-square-rest.false)
+pub overflow_sub-result-else-square-rest-3 : goal.overflow_sub-result-else-square-rest-3
+overflow_sub-result-else-square-rest-3 c = omega (arith, step.less_room c.args.part.root c.args.part.rest c.args.base c.args.upper c.args.lower c.requires.whole c.requires.enough c.requires.digits.0 c.requires.digits.1 c.if-square-rest.false)
 
 pub returns-then-square-rest : goal.returns-then-square-rest
 returns-then-square-rest c =

@@ -2,20 +2,20 @@ use Rattle.std.proofs.Common.{refl, ◌∙◌}
 use Rattle.elementary.proofs.RootCases as on
 use Rattle.elementary.proofs.sqrt.sqrt.Goals as goal
 
-pub positive-root-requires : goal.positive-root-requires
-positive-root-requires c = (on.above_zero c.args.x c.if-x.true, on.below_infinity c.args.x c.if-x.true c.if-x-2.true)
+pub positive_root-requires : goal.positive_root-requires
+positive_root-requires c = (on.above_zero c.args.x c.if-x.true, on.below_infinity c.args.x c.if-x.true c.if-x-2.true)
 
 pub returns-then-x-2 : goal.returns-then-x-2
 returns-then-x-2 c =
     let x = c.args.x in
     let p = on.above_zero x c.if-x.true in
     record {
-      nearest = λ h k. c.positive-root.ensures.nearest;
+      nearest = λ h k. c.positive_root.ensures.nearest;
       zeros = λ h. absurd (on.not_zero x p h);
       infinity = λ h. absurd (on.infinity_not_finite x (on.below_infinity x c.if-x.true c.if-x-2.true) h);
       below = λ h. absurd (on.not_below x p h);
       nothing = λ h. absurd (on.nan_not_above x p h);
-      defined = c.positive-root.ensures.defined;
+      defined = c.positive_root.ensures.defined;
     }
 
 pub returns-else-x-2 : goal.returns-else-x-2

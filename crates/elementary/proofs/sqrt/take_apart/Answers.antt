@@ -5,8 +5,8 @@ use Rattle.elementary.proofs.sqrt.take_apart.Goals as goal
 small : (c : goal.Then-field-eq0) → c.args.bits < 2 ^ 52
 small c = omega (arith, c.if-field-eq0.true)
 
-pub overflow-sub-shift : goal.overflow-sub-shift
-overflow-sub-shift c = field.shift_room c.args.bits _ c.requires.0 (small c) refl
+pub overflow_sub-shift : goal.overflow_sub-shift
+overflow_sub-shift c = field.shift_room c.args.bits _ c.requires.0 (small c) refl
 
 pub returns-then-field-eq0 : goal.returns-then-field-eq0
 returns-then-field-eq0 c = record {

@@ -4,11 +4,11 @@ use Rattle.sheets.specs.Tables.{moved_entry}
 use Rattle.sheets.proofs.Shifts.{carry_more}
 use Rattle.sheets.proofs.calls.carry_all.Goals as goal
 
-pub offset-bounds-table-position : goal.offset-bounds-table-position
-offset-bounds-table-position g c = let l : c.loop-position.position < length c.args.table.now = omega arith in search rules
+pub offset_bounds-table-position : goal.offset_bounds-table-position
+offset_bounds-table-position g c = let l : c.loop-position.position < length c.args.table.now = omega arith in search rules
 
-pub offset-bounds-table-position-in-loop-position : goal.offset-bounds-table-position-in-loop-position
-offset-bounds-table-position-in-loop-position g c = let l : c.loop-position.position < length c.args.table.now = omega arith in search rules
+pub offset_bounds-table-position-in-loop-position : goal.offset_bounds-table-position-in-loop-position
+offset_bounds-table-position-in-loop-position g c = let l : c.loop-position.position < length c.args.table.now = omega arith in search rules
 
 pub loop-position-preserved : goal.loop-position-preserved
 loop-position-preserved g c =

@@ -7,8 +7,8 @@ use Rattle.sheets.specs.Tables.{row_of}
 use Rattle.sheets.proofs.Shifts.{leaving_more, leaving_all}
 use Rattle.sheets.proofs.calls.first_leaving.Goals as goal
 
-pub returns-then-not-is-on-page : goal.returns-then-not-is-on-page
-returns-then-not-is-on-page g c =
+pub returns-then-not-is_on_page : goal.returns-then-not-is_on_page
+returns-then-not-is_on_page g c =
     let t = c.args.table.now in
     let m = c.args.by.map in
     let i = c.loop-position.position in
@@ -17,7 +17,7 @@ returns-then-not-is-on-page g c =
     let k : i < c.args.count = omega arith in
     let h : i < length es = simp length-take (omega arith) in
     let r = c.index-table-position.is ∙ sym (get_or-take c.args.count t i e k) in
-    let off = sym (c.is-on-page.ensures ∙ ap (λ (x : Entry _). page_offset x.numbers) c.carried.ensures) ∙ c.if-not-is-on-page.true in
+    let off = sym (c.is_on_page.ensures ∙ ap (λ (x : Entry _). page_offset x.numbers) c.carried.ensures) ∙ c.if-not-is_on_page.true in
     sym (c.loop-position.invariant ∙ leaving_more m i es e h r ∙ ap (λ (b : Bool). cond b (leaving (i + 1) (map row_of (drop (i + 1) es)) m) (Some i)) off)
 
 pub loop-position-preserved : goal.loop-position-preserved
@@ -30,7 +30,7 @@ loop-position-preserved g c =
     let k : i < c.args.count = omega arith in
     let h : i < length es = simp length-take (omega arith) in
     let r = c.index-table-position.is ∙ sym (get_or-take c.args.count t i e k) in
-    let on = sym (c.is-on-page.ensures ∙ ap (λ (x : Entry _). page_offset x.numbers) c.carried.ensures) ∙ c.if-not-is-on-page.false in
+    let on = sym (c.is_on_page.ensures ∙ ap (λ (x : Entry _). page_offset x.numbers) c.carried.ensures) ∙ c.if-not-is_on_page.false in
     c.loop-position.invariant ∙ leaving_more m i es e h r ∙ ap (λ (b : Bool). cond b (leaving (i + 1) (map row_of (drop (i + 1) es)) m) (Some i)) on
 
 pub returns : goal.returns

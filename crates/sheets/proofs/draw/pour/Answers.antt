@@ -14,6 +14,6 @@ loop-el-preserved g c =
     let s = step_some (rest l.path) c.in-Some.el more c.in-Some.ensures in
     let n : length (rest l.path) ≡ suc (length more) = ap length s in
     let h : l.k < length l.buffer = omega arith in
-    let m : map f (rest l.path) ≡ c.map-el.result ∷ map f more = ap (map f) s ∙ ap (λ (y : PathEl). y ∷ map f more) (sym c.map-el.ensures) in
-    let p = pour_more l.buffer c.args.buffer.now l.k c.map-el.result (map f more) _ h (ap (λ (ys : List PathEl). take l.k l.buffer ++ ys) (sym m) ∙ l.invariant.1) l.invariant.2 in
+    let m : map f (rest l.path) ≡ c.map_el.result ∷ map f more = ap (map f) s ∙ ap (λ (y : PathEl). y ∷ map f more) (sym c.map_el.ensures) in
+    let p = pour_more l.buffer c.args.buffer.now l.k c.map_el.result (map f more) _ h (ap (λ (ys : List PathEl). take l.k l.buffer ++ ys) (sym m) ∙ l.invariant.1) l.invariant.2 in
     (omega arith, p.0, p.1)

@@ -9,17 +9,17 @@ use Rattle.sheets.specs.Book.{marks}
 use Rattle.sheets.proofs.Drawing.{front, fitting_ok, room_for, more_ok, more_err, drawn_whole}
 use Rattle.sheets.proofs.draw.pour_all.Goals as goal
 
-pub returns-in-err-path : goal.returns-in-err-path
-returns-in-err-path g c =
+pub returns-in_err-path : goal.returns-in_err-path
+returns-in_err-path g c =
     let k = marks g.M.Shape.wind g.M.Shape.frame g.M.Shape.drawn in
     let tol = c.args.tolerance in
     let t = c.args.table.now in
     let l = c.loop-position in
-    let f = c.in-err-path.field-0.0 in
+    let f = c.in_err-path.field-0.0 in
     let h : l.position < length t = omega (arith, c.requires.within) in
     let n : l.position < c.args.count = omega arith in
     let whole = fitting_ok (length c.args.buffer.now) (front k tol c.args.count t) c.requires.fits in
-    let e = more_err k tol t l.position c.args.count c.index-table-position.result (take l.at l.buffer) f.fault h n c.index-table-position.is c.in-err-path.ensures.0 l.invariant.0 in
+    let e = more_err k tol t l.position c.args.count c.index-table-position.result (take l.at l.buffer) f.fault h n c.index-table-position.is c.in_err-path.ensures.0 l.invariant.0 in
     let clash : Ok whole.0 ≡ Err (Path (record { position = l.position; fault = f.fault })) = sym whole.1 ∙ e in
     let z : ◌≡◌ {A = ℕ} 0 1 = cc in
     absurd (let w : 0 ≡ 1 = z in omega arith)
@@ -33,8 +33,8 @@ pour-at-requires g c =
     let h : l.position < length t = omega (arith, c.requires.within) in
     let n : l.position < c.args.count = omega arith in
     let whole = fitting_ok (length c.args.buffer.now) (front k tol c.args.count t) c.requires.fits in
-    let els = g.Path.Cursor.rest c.in-ok-path.path in
-    let r = room_for k tol t l.position c.args.count c.index-table-position.result (take l.at l.buffer) els whole.0 h n c.index-table-position.is c.in-ok-path.ensures l.invariant.0 whole.1 in
+    let els = g.Path.Cursor.rest c.in_ok-path.path in
+    let r = room_for k tol t l.position c.args.count c.index-table-position.result (take l.at l.buffer) els whole.0 h n c.index-table-position.is c.in_ok-path.ensures l.invariant.0 whole.1 in
     let m = length-take-le l.at l.buffer l.invariant.1 in
     let q : length whole.0 ≤ length c.args.buffer.now = whole.2 in
     omega arith
@@ -45,10 +45,10 @@ loop-position-preserved g c =
     let t = c.args.table.now in
     let l = c.loop-position in
     let p = c.pour-at in
-    let els = g.Path.Cursor.rest c.in-ok-path.path in
+    let els = g.Path.Cursor.rest c.in_ok-path.path in
     let h : l.position < length t = omega (arith, c.requires.within) in
     let place = c.numbers.ensures.value ∙ c.read.ensures in
-    let a = more_ok k c.args.tolerance t l.position c.index-table-position.result (take l.at l.buffer) els h c.index-table-position.is c.in-ok-path.ensures l.invariant.0 in
+    let a = more_ok k c.args.tolerance t l.position c.index-table-position.result (take l.at l.buffer) els h c.index-table-position.is c.in_ok-path.ensures l.invariant.0 in
     let front' = p.ensures.front ∙ ap (λ (m : Affine). take l.at l.buffer ++ map (image_el m) els) place in
     let b = ap (λ (n : ℕ). drop n l.buffer) p.ensures.end ∙ sym (drop-drop (length els) l.at l.buffer) ∙ ap (drop (length els)) l.invariant.2 ∙ drop-drop (length els) l.at c.args.buffer.now ∙ sym (ap (λ (n : ℕ). drop n c.args.buffer.now) p.ensures.end) in
     (a ∙ ap Ok (sym front'), p.ensures.within, p.ensures.back ∙ b)

@@ -8,8 +8,8 @@ use Rattle.sheets.specs.Book.{marks}
 use Rattle.sheets.proofs.Asked.{gives_at}
 use Rattle.sheets.proofs.questions.given.Goals as goal
 
-pub overflow-mul-result : goal.overflow-mul-result
-overflow-mul-result g c =
+pub overflow_mul-result : goal.overflow_mul-result
+overflow_mul-result g c =
     sign_fits (lt (det c.read-place.result.map) nought) c.sign.result c.winding.result c.sign.ensures.value c.winding.ensures (g.met.M.Shape.small c.args.entry.mark c.back.result)
 
 pub returns : goal.returns

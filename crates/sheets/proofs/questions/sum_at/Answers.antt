@@ -5,8 +5,8 @@ use Rattle.sheets.specs.Tables.{row_of}
 use Rattle.sheets.proofs.Asked.{sum_fits, sum_is, gives_within, total_within, total_more}
 use Rattle.sheets.proofs.questions.sum_at.Goals as goal
 
-pub overflow-add-sum : goal.overflow-add-sum
-overflow-add-sum g c =
+pub overflow_add-sum : goal.overflow_add-sum
+overflow_add-sum g c =
     let k = marks g.M.Shape.wind g.M.Shape.frame g.M.Shape.drawn in
     let t = c.args.table.now in
     let i = c.loop-position.position in

@@ -6,23 +6,23 @@ use Rattle.layers.specs.Moves.{is_move, page_offset}
 use Rattle.layers.specs.Composed.{composes, product_move}
 use Rattle.layers.proofs.moves.Move.mul.Goals as goal
 
-pub invariant-of-result : goal.invariant-of-result
-invariant-of-result c =
+pub invariant_of-result : goal.invariant_of-result
+invariant_of-result c =
     let n = c.args.self.map in
     let m = c.args.other.map in
-    let on : T (page_offset (product n m)) = subst (λ (a : Affine). T (page_offset a)) c.mul-map.ensures (passes _ (sym c.if-has-page-offset.ensures)) in
+    let on : T (page_offset (product n m)) = subst (λ (a : Affine). T (page_offset a)) c.mul-map.ensures (passes _ (sym c.if-has_page_offset.ensures)) in
     (subst (λ (a : Affine). T (is_move a)) (sym c.mul-map.ensures) (product_move n m c.args.self.lawful c.args.other.lawful on), tt)
 
-pub returns-then-has-page-offset : goal.returns-then-has-page-offset
-returns-then-has-page-offset c = record {
-  granted = (c.mul-map.ensures, subst (λ (a : Affine). T (page_offset a)) c.mul-map.ensures (passes _ (sym c.if-has-page-offset.ensures)));
+pub returns-then-has_page_offset : goal.returns-then-has_page_offset
+returns-then-has_page_offset c = record {
+  granted = (c.mul-map.ensures, subst (λ (a : Affine). T (page_offset a)) c.mul-map.ensures (passes _ (sym c.if-has_page_offset.ensures)));
   denied = tt;
   composes = composes c.args.self.map c.args.other.map c.args.self.lawful c.args.other.lawful;
 }
 
-pub returns-else-has-page-offset : goal.returns-else-has-page-offset
-returns-else-has-page-offset c = record {
+pub returns-else-has_page_offset : goal.returns-else-has_page_offset
+returns-else-has_page_offset c = record {
   granted = tt;
-  denied = (refl, subst T (sym (c.if-has-page-offset.ensures ∙ ap page_offset c.mul-map.ensures)));
+  denied = (refl, subst T (sym (c.if-has_page_offset.ensures ∙ ap page_offset c.mul-map.ensures)));
   composes = composes c.args.self.map c.args.other.map c.args.self.lawful c.args.other.lawful;
 }

@@ -4,5 +4,5 @@ use Rattle.layers.specs.Moves.{is_move}
 use Rattle.layers.specs.Whole.{unmoved_move}
 use Rattle.layers.proofs.moves.Move.unmoved.Goals as goal
 
-pub invariant-of-result : goal.invariant-of-result
-invariant-of-result c = (subst (λ (m : Affine). T (is_move m)) (sym c.new.ensures) unmoved_move, tt)
+pub invariant_of-result : goal.invariant_of-result
+invariant_of-result c = (subst (λ (m : Affine). T (is_move m)) (sym c.new.ensures) unmoved_move, tt)

@@ -9,5 +9,5 @@ use Rattle.layers.proofs.placing.PlacingShape.path_elements.Goals as goal
 pub returns : goal.returns
 returns g c =
     let m = c.numbers.ensures.value ∙ c.place.ensures in
-    ap (placed_drawn (read_as c.args.self.now.numbers)) c.in-ok-below.ensures
-    ∙ ap (λ (a : Affine). Ok (map (image_el a) (g.S.Path.Cursor.rest c.in-ok-below.below))) (sym m)
+    ap (placed_drawn (read_as c.args.self.now.numbers)) c.in_ok-below.ensures
+    ∙ ap (λ (a : Affine). Ok (map (image_el a) (g.S.Path.Cursor.rest c.in_ok-below.below))) (sym m)

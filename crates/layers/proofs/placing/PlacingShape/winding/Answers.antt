@@ -8,12 +8,12 @@ use Rattle.layers.specs.Placings.{placed_wind}
 use Rattle.layers.proofs.Signs.{sign_fits, sign_times, placed_at}
 use Rattle.layers.proofs.placing.PlacingShape.winding.Goals as goal
 
-pub overflow-mul-result : goal.overflow-mul-result
-overflow-mul-result g c =
+pub overflow_mul-result : goal.overflow_mul-result
+overflow_mul-result g c =
     sign_fits (lt (det c.place-place.result.map) nought) c.sign.result c.winding.result c.sign.ensures.value c.winding.ensures (g.met.S.Shape.small c.args.self.now.below c.back-q.result)
 
-pub returns-then-in-field-2 : goal.returns-then-in-field-2
-returns-then-in-field-2 g c =
+pub returns-then-in_field-2 : goal.returns-then-in_field-2
+returns-then-in_field-2 g c =
     sign_times (lt (det c.place-place.result.map) nought) c.sign.result c.winding.result c.sign.ensures.value c.winding.ensures (g.met.S.Shape.small c.args.self.now.below c.back-q.result)
     ∙ placed_at c.place-place.result.map (read_as c.args.self.now.numbers) (g.S.Shape.wind c.args.self.now.below) c.args.pt c.back-q.result c.sign.result c.winding.result
-    c.place-place.ensures c.back-q.ensures.value c.if-in-field.ensures.value c.if-in-field-2.ensures.value c.sign.ensures.value c.winding.ensures
+    c.place-place.ensures c.back-q.ensures.value c.if-in_field.ensures.value c.if-in_field-2.ensures.value c.sign.ensures.value c.winding.ensures

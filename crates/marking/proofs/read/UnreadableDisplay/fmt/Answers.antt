@@ -11,4 +11,4 @@ pub returns-in-NoNumber-clause-writes : goal.returns-in-NoNumber-clause-writes
 returns-in-NoNumber-clause-writes g c = rw c.in-NoNumber.is c.write-in-NoNumber.ensures.writes
 
 pub returns-in-NoKey-clause-writes : goal.returns-in-NoKey-clause-writes
-returns-in-NoKey-clause-writes g c = rw c.in-NoKey.is c.write-str-in-NoKey.ensures.writes
+returns-in-NoKey-clause-writes g c = rw c.in-NoKey.is c.write_str-in-NoKey.ensures.writes

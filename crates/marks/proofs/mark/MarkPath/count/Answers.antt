@@ -10,4 +10,4 @@ ended [] after h = refl
 ended (x ∷ xs) after h = let z : ◌≡◌ {A = ℕ} 0 1 = cc h.0 in omega arith
 
 pub returns : goal.returns
-returns c = omega (arith, c.loop-count.invariant, ended (rest c.loop-count.left) (rest c.next.new.self) c.in-default.ensures)
+returns c = omega (arith, c.loop-count.invariant, ended (rest c.loop-count.left) (rest c.next.new.self) c.in_default.ensures)

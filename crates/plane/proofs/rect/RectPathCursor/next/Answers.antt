@@ -3,5 +3,5 @@ use Rattle.plane.specs.Rects.{path}
 use Rattle.plane.specs.Formed.{past_end}
 use Rattle.plane.proofs.rect.RectPathCursor.next.Goals as goal
 
-pub returns-in-default : goal.returns-in-default
-returns-in-default c = past_end c.args.self.now.ix (path c.args.self.now.rect) (omega arith)
+pub returns-in_default : goal.returns-in_default
+returns-in_default c = past_end c.args.self.now.ix (path c.args.self.now.rect) (omega arith)

@@ -4,8 +4,8 @@ use Rattle.rounded.proofs.rounded_rect.RoundedRect.new.Goals as goal
 
 pub returns : goal.returns
 returns c =
-    let s = c.repaired-between.result in
-    let e = c.repaired-between.ensures in
+    let s = c.repaired_between.result in
+    let e = c.repaired_between.ensures in
     let b = rect c.args.x0 c.args.y0 c.args.x1 c.args.y1 in
     let m = c.args.radii in
     record {

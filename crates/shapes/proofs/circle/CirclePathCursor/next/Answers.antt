@@ -10,5 +10,5 @@ pub returns-then-ix-self : goal.returns-then-ix-self
 returns-then-ix-self c =
     let k = c.args.self.now in
     let after : CirclePath = record { circle = k.circle; delta_th = k.delta_th; arm_len = k.arm_len; n = k.n; ix = k.ix + 1; stage = k.stage } in
-    let P : CircleStage → Type 0 = λ s. Steps (rest_at s k) (Some c.curve-at.result) (rest_at s after) in
-    subst P (sym c.in-Curves.is) (next_curve k.circle k.delta_th k.arm_len k.n k.ix c.curve-at.result c.if-ix-self.true c.curve-at.ensures)
+    let P : CircleStage → Type 0 = λ s. Steps (rest_at s k) (Some c.curve_at.result) (rest_at s after) in
+    subst P (sym c.in-Curves.is) (next_curve k.circle k.delta_th k.arm_len k.n k.ix c.curve_at.result c.if-ix-self.true c.curve_at.ensures)

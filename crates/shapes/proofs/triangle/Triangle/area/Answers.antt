@@ -7,6 +7,6 @@ use Rattle.shapes.proofs.triangle.Triangle.area.Goals as goal
 
 pub returns : goal.returns
 returns c = record {
-  value = c.signed-area.ensures;
-  grid = λ a b l d m f G. subst (λ (z : Float). Val z (twice_area a b l d m f) 17) (sym c.signed-area.ensures) (triangle_area c.args.self.now a b l d m f G);
+  value = c.signed_area.ensures;
+  grid = λ a b l d m f G. subst (λ (z : Float). Val z (twice_area a b l d m f) 17) (sym c.signed_area.ensures) (triangle_area c.args.self.now a b l d m f G);
 }

@@ -7,6 +7,6 @@ use Rattle.shapes.proofs.triangle.Triangle.bounding_box.Goals as goal
 
 pub returns : goal.returns
 returns c = record {
-  value = c.corner-box.ensures;
-  grid = λ a b l d m f G. subst (λ (z : Rect). Sides z (int_min a (int_min l m)) (int_min b (int_min d f)) (int_max a (int_max l m)) (int_max b (int_max d f))) (sym c.corner-box.ensures) (triangle_sides c.args.self.now a b l d m f G);
+  value = c.corner_box.ensures;
+  grid = λ a b l d m f G. subst (λ (z : Rect). Sides z (int_min a (int_min l m)) (int_min b (int_min d f)) (int_max a (int_max l m)) (int_max b (int_max d f))) (sym c.corner_box.ensures) (triangle_sides c.args.self.now a b l d m f G);
 }

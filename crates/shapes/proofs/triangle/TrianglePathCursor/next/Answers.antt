@@ -3,5 +3,5 @@ use Rattle.plane.specs.Formed.{past_end}
 use Rattle.shapes.specs.Triangles.{path}
 use Rattle.shapes.proofs.triangle.TrianglePathCursor.next.Goals as goal
 
-pub returns-in-default : goal.returns-in-default
-returns-in-default c = past_end c.args.self.now.ix (path c.args.self.now.triangle) (omega arith)
+pub returns-in_default : goal.returns-in_default
+returns-in_default c = past_end c.args.self.now.ix (path c.args.self.now.triangle) (omega arith)

@@ -13,7 +13,7 @@ loop-position-preserved g c =
     let i = c.loop-position.position in
     let w = c.count-count.ensures.within in
     let h : i < length t = omega arith in
-    ap Some (c.union-union.ensures ∙ ap (joined c.loop-position.union) c.box-of.ensures)
+    ap Some (c.union-union.ensures ∙ ap (joined c.loop-position.union) c.box_of.ensures)
     ∙ union_more k t i c.index-table-position.result c.loop-position.union h c.index-table-position.is c.loop-position.invariant
 
 pub returns : goal.returns

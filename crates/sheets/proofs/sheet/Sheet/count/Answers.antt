@@ -6,14 +6,14 @@ use Rattle.sheets.proofs.sheet.Sheet.count.Goals as goal
 
 pub returns-then-self-most : goal.returns-then-self-most
 returns-then-self-most g c =
-    let v = c.most-of-most.ensures.value in
-    let w = c.most-of-most.ensures.within in
-    let f = c.most-of-most.ensures.few in
+    let v = c.most_of-most.ensures.value in
+    let w = c.most_of-most.ensures.within in
+    let f = c.most_of-most.ensures.few in
     record { value = omega arith; within = omega arith; few = omega arith; stands = all_stand_self (used c.args.self.now c.args.table.now) }
 
 pub returns-else-self-most : goal.returns-else-self-most
 returns-else-self-most g c =
-    let v = c.most-of-most.ensures.value in
-    let w = c.most-of-most.ensures.within in
-    let f = c.most-of-most.ensures.few in
+    let v = c.most_of-most.ensures.value in
+    let w = c.most_of-most.ensures.within in
+    let f = c.most_of-most.ensures.few in
     record { value = omega arith; within = omega arith; few = omega arith; stands = all_stand_self (used c.args.self.now c.args.table.now) }

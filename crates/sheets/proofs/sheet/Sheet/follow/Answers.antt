@@ -27,7 +27,7 @@ returns-in-ShiftAll g c =
     let s = c.args.self.now in
     let t = c.args.table.now in
     let b = c.args.buffer.now in
-    let f = under k s t b c.args.order _ _ _ _ _ c.in-ShiftAll.is (shift_all_followed k s t b c.in-ShiftAll.by c.shift-all.result c.count.result _ c.shift-all.ensures.answer c.shift-all.ensures.table c.shift-all.ensures.book c.count.ensures) in
+    let f = under k s t b c.args.order _ _ _ _ _ c.in-ShiftAll.is (shift_all_followed k s t b c.in-ShiftAll.by c.shift_all.result c.count.result _ c.shift_all.ensures.answer c.shift_all.ensures.table c.shift_all.ensures.book c.count.ensures) in
     record { «record» = f.sheet; table = f.table; book = f.book }
 
 pub returns-in-Lift : goal.returns-in-Lift
@@ -63,7 +63,7 @@ returns-in-BoundingBox g c =
     let s = c.args.self.now in
     let t = c.args.table.now in
     let b = c.args.buffer.now in
-    let f = under k s t b c.args.order _ _ _ _ _ c.in-BoundingBox.is (box_followed k s t b c.bounding-box.result c.bounding-box.ensures.book) in
+    let f = under k s t b c.args.order _ _ _ _ _ c.in-BoundingBox.is (box_followed k s t b c.bounding_box.result c.bounding_box.ensures.book) in
     record { «record» = f.sheet; table = f.table; book = f.book }
 
 pub returns-in-Draw : goal.returns-in-Draw

@@ -23,5 +23,5 @@ returns-in-None g c =
     let v = c.count-count.ensures.value in
     let found = c.in-None.ensures ∙ ap (λ (n : ℕ). leaving 0 (map row_of (take n t)) m) v in
     let a = (λ i. by_lowest ((v ∙ sym (rows_count s t)) i) None) ∙ ap (by_lowest (length (rows s t))) found in
-    let u = c.carry-all.ensures ∙ ap (λ (n : ℕ). map (moved_entry m) (take n t) ++ drop n t) v in
+    let u = c.carry_all.ensures ∙ ap (λ (n : ℕ). map (moved_entry m) (take n t) ++ drop n t) v in
     record { answer = a; table = u; book = shift_all_book m s t _ _ c.args.by.lawful a u }

@@ -6,13 +6,13 @@ use Rattle.vectors.proofs.case.Case.read.Goals as goal
 
 pub returns : goal.returns
 returns c =
-    let q = c.in-ok-question.question in
-    let r = c.in-ok-question.answer in
-    let n = c.in-ok-name.name in
-    let a = c.in-ok-name.arguments in
-    let sides = split_text_parts (codes " -> ") c.args.text.now (Some (q, r)) c.in-ok-question.ensures.cases in
-    let words = split_parts 32 q.now (Some (n, a)) c.in-ok-name.ensures.cases (omega arith) in (
-      c.in-ok-read.field-0,
-      two_sides c.args.text.now q.now r.now n.now a.now _ _ _ sides words.0 c.in-ok-function.ensures c.in-ok-read.ensures c.in-ok-expected.ensures,
-      c.in-ok-got.ensures,
+    let q = c.in_ok-question.question in
+    let r = c.in_ok-question.answer in
+    let n = c.in_ok-name.name in
+    let a = c.in_ok-name.arguments in
+    let sides = split_text_parts (codes " -> ") c.args.text.now (Some (q, r)) c.in_ok-question.ensures.cases in
+    let words = split_parts 32 q.now (Some (n, a)) c.in_ok-name.ensures.cases (omega arith) in (
+      c.in_ok-read.field-0,
+      two_sides c.args.text.now q.now r.now n.now a.now _ _ _ sides words.0 c.in_ok-function.ensures c.in_ok-read.ensures c.in_ok-expected.ensures,
+      c.in_ok-got.ensures,
     )
