@@ -1,7 +1,9 @@
 -- The cases of a square root's argument, by comparisons with 0 and the upper infinity. Assumes nothing.
-use Rattle.std.proofs.Common.{◌≡◌, ℕ, zero, suc, ◌+◌, ◌*◌, ◌<◌, Bool, true, false, ◌||◌, T, eqb, sym, refl, subst, true≢false, zero-lt-suc, mul-pos, arith, eqb→eq, ltb→lt, lt→ltb, T_not}
+use Rattle.std.proofs.Common.{◌≡◌, ℕ, zero, suc, ◌+◌, ◌*◌, ◌^◌, ◌<◌, Bool, true, false, ◌||◌, T, eqb, sym, refl, ap, subst, true≢false, zero-lt-suc, mul-pos, arith, pow_pos, eqb→eq, ltb→lt, lt→ltb, T_not}
 use mathlib.Core.Bool.{beq}
-use lib.Ieee.{Float, nan, inf, fin, binary64, up, down, below, level, lt, le, eq, of_bits}
+use native.Mathlib.Nat.{pow-succ'}
+use lib.IntN.{ℤ, pos, negsuc}
+use lib.Ieee.{Float, nan, inf, fin, binary64, up, down, below, level, lt, le, eq, of_bits, fits}
 use lib.Ieee.Fits.{and_l, up_pos}
 use Rattle.std.specs.Float.{float_zero as zeroF, float_is_finite, sqrt}
 use Rattle.std.specs.Bool.{passes, fails}
@@ -112,12 +114,18 @@ level_zero s a b e f = subst (λ (z : ℕ). T (level s z false b)) (sym e) (subs
     go true = tt
     go false = tt
 
-pub zero_root : (x : Float) → T (eq x zeroF) → x ≡ sqrt binary64 x
+-- a zero is written in the one way
+zero_size : (e : ℤ) → T (eqb (up e * down e) 1) → e ≡ pos 0
+zero_size (pos zero) h = refl
+zero_size (pos (suc k)) h = let p : 2 ^ suc k * 1 ≡ 1 = eqb→eq (2 ^ suc k * 1) 1 h in absurd (omega (arith, pow_pos k, pow-succ' 2 k))
+zero_size (negsuc k) h = let p : 1 * 2 ^ suc k ≡ 1 = eqb→eq (1 * 2 ^ suc k) 1 h in absurd (omega (arith, pow_pos k, pow-succ' 2 k))
+
+pub zero_root : (x : Float) → T (fits binary64 x) → T (eq x zeroF) → x ≡ sqrt binary64 x
 unfolding sqrt
-zero_root nan h = absurd (unfold eq in h)
-zero_root (inf s) h = absurd (unfold eq in h)
-zero_root (fin s zero e) h = refl
-zero_root (fin s (suc m) e) h = absurd (unfold eq in none (mul-pos (zero-lt-suc m) (up_pos e)) (down e) (eqb→eq (suc m * up e * 1) (0 * 1 * down e) (and_l (eqb (suc m * up e * 1) (0 * 1 * down e)) (beq s false || eqb (suc m * up e * 1) 0) h)))
+zero_root nan f h = absurd (unfold eq in h)
+zero_root (inf s) f h = absurd (unfold eq in h)
+zero_root (fin s zero e) f h = ap (fin s 0) (zero_size e (unfold fits in f))
+zero_root (fin s (suc m) e) f h = absurd (unfold eq in none (mul-pos (zero-lt-suc m) (up_pos e)) (down e) (eqb→eq (suc m * up e * 1) (0 * 1 * down e) (and_l (eqb (suc m * up e * 1) (0 * 1 * down e)) (beq s false || eqb (suc m * up e * 1) 0) h)))
   where
     none : {n : ℕ} → 0 < n → (d : ℕ) → n * 1 ≡ 0 * 1 * d → ⊥
     none N d h = omega arith

@@ -8,7 +8,8 @@ use lib.Ieee.{Float, nan, inf, fin, binary64, up, down, size, nearest, units, ro
 use lib.Ieee.Digits.{size-lt, size-le}
 use lib.Ieee.Fits.{core, round_is, round-fits, down_pos}
 use lib.Ieee.Exact.{HasValue, units_val}
-use Rattle.std.specs.Float.{isqrt-below, twice-sqrt-sticky, sqrt, float_zero as zeroF}
+use Rattle.std.specs.Float.{float_zero as zeroF}
+use Rattle.std.specs.Float.Ieee.{root_below, root_twice, sqrt}
 use Rattle.std.proofs.lemmas.Nat.{mul-le}
 use Rattle.elementary.specs.Roots.{Units, NearestWhole}
 use Rattle.elementary.proofs.UnitSizes.{units_same}
@@ -25,10 +26,10 @@ more_digit n s h = go (leb ((2 * s + 1) * (2 * s + 1)) n) (leb→le ((2 * s + 1)
     go true y n' = (y tt, omega (arith, h.1))
     go false y n' = (omega (arith, h.0), n' tt)
 
-root_below : (k n : ℕ) → n < 2 ^ k → Whole n (isqrt-below k n)
-unfolding isqrt-below
-root_below zero n h = (omega arith, h)
-root_below (suc k) n h = more_digit n (isqrt-below k (n / 4)) (root_below k (n / 4) (quarter (2 ^ k) (subst (λ (z : ℕ). n < z) (pow-succ' 2 k) h)))
+floor_whole : (k n : ℕ) → n < 2 ^ k → Whole n (root_below k n)
+unfolding root_below
+floor_whole zero n h = (omega arith, h)
+floor_whole (suc k) n h = more_digit n (root_below k (n / 4)) (floor_whole k (n / 4) (quarter (2 ^ k) (subst (λ (z : ℕ). n < z) (pow-succ' 2 k) h)))
   where
     quarter : (p : ℕ) → n < 2 * p → n / 4 < p
     quarter p h = omega arith
@@ -63,9 +64,9 @@ twice_of n s h = go (eqb (s * s) n) (eqb→eq (s * s) n) (λ e. subst (λ (z : �
       under = λ b l. omega (arith, square_above b s (omega (arith, h.0)));
     }
 
-root_twice : (n : ℕ) → Twice n (twice-sqrt-sticky n)
-unfolding twice-sqrt-sticky
-root_twice n = twice_of n (isqrt-below (size n) n) (root_below (size n) n (size-lt n))
+twice_root : (n : ℕ) → Twice n (root_twice n)
+unfolding root_twice
+twice_root n = twice_of n (root_below (size n) n) (floor_whole (size n) n (size-lt n))
 
 -- ---- the nearest number to n / U, by comparisons that `round` makes
 clash : (a b : ℕ) → a < b → b ≤ a → ⊥
@@ -140,7 +141,7 @@ round_to num den q j P a Q S b c =
     dropped z j e = omega arith
 
 -- ---- the library's root of v units
-sqrt_at : (x : Float) (v : ℕ) → T (lt zeroF x) → HasValue x false v (2 ^ 1074) → sqrt binary64 x ≡ round binary64 false (twice-sqrt-sticky (v * 2 ^ 3468)) (2 ^ 2272)
+sqrt_at : (x : Float) (v : ℕ) → T (lt zeroF x) → HasValue x false v (2 ^ 1074) → sqrt binary64 x ≡ round binary64 false (root_twice (v * 2 ^ 3468)) (2 ^ 2272)
 unfolding sqrt
 sqrt_at nan v p h = absurd h
 sqrt_at (inf s) v p h = absurd h
@@ -150,7 +151,7 @@ sqrt_at (fin false zero e) v p h = absurd (unfold lt in none (down e) (up e) (lt
     none : (d u : ℕ) → 0 * 1 * d < 0 * u * 1 → ⊥
     none d u l = omega arith
 sqrt_at (fin false (suc m) e) v p h =
-    ap (λ (z : ℕ). round binary64 false (twice-sqrt-sticky z) (2 ^ 2272))
+    ap (λ (z : ℕ). round binary64 false (root_twice z) (2 ^ 2272))
     (ap (λ (z : ℕ). z / down e) (scaled (suc m * up e) (2 ^ 1074) (2 ^ 3468) v (down e) h.1) ∙ mul-div_cancel (v * 2 ^ 3468) (down_pos e))
   where
     scaled : (n P W v d : ℕ) → n * P ≡ v * d → n * (P * W) ≡ v * W * d
@@ -185,8 +186,8 @@ defined x r v q j D p X R Q S top near large square =
     let J = 2 ^ j in
     let W = 2 ^ 1196 in
     let P = 2 ^ 1074 in
-    let t = twice-sqrt-sticky (v * 2 ^ 3468) in
-    let twice : Twice (D * (J * J) * (4 * (W * W))) t = subst (λ (z : ℕ). Twice z t) (counted v P (2 ^ 2394) (D * (J * J)) square) (root_twice (v * 2 ^ 3468)) in
+    let t = root_twice (v * 2 ^ 3468) in
+    let twice : Twice (D * (J * J) * (4 * (W * W))) t = subst (λ (z : ℕ). Twice z t) (counted v P (2 ^ 2394) (D * (J * J)) square) (twice_root (v * 2 ^ 3468)) in
     let some : 0 < q = lt_of_lt_of_le (pow_pos 52) Q in
     let JW : 0 < J * W = mul-pos (pow_pos j) (pow_pos 1196) in
     let is : round binary64 false t (2 ^ 2272) ≡ units binary64 false q j =

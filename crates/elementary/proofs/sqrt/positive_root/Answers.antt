@@ -13,14 +13,11 @@ nearest_root-q-requires c =
     let e = root.even_digits s.m s.scale c.take_apart-s.ensures.digits.0 c.take_apart-s.ensures.digits.1 in
     (e.0, omega arith)
 
-below : (c : goal.After-struct-known-3·1) → c.nearest_root-q.result < 2 ^ 53
-below c = root.root_below c.take_apart-s.result.m c.take_apart-s.result.scale c.nearest_root-q.result c.take_apart-s.ensures.digits.0 c.take_apart-s.ensures.digits.1 c.nearest_root-q.ensures
-
 pub overflow_add-result-2 : goal.overflow_add-result-2
-overflow_add-result-2 c = omega (arith, below c, c.take_apart-s.ensures.range)
+overflow_add-result-2 c = omega (arith, root.root_below c.take_apart-s.result.m c.take_apart-s.result.scale c.nearest_root-q.result c.take_apart-s.ensures.digits.0 c.take_apart-s.ensures.digits.1 c.nearest_root-q.ensures, c.take_apart-s.ensures.range)
 
 pub float_from_bits-result : goal.float_from_bits-result
-float_from_bits-result c = root.root_bits c.take_apart-s.result.scale _ c.nearest_root-q.result c.take_apart-s.ensures.range (lit< tt) (below c)
+float_from_bits-result c = root.root_bits c.take_apart-s.result.scale _ c.nearest_root-q.result c.take_apart-s.ensures.range (lit< tt) (root.root_below c.take_apart-s.result.m c.take_apart-s.result.scale c.nearest_root-q.result c.take_apart-s.ensures.digits.0 c.take_apart-s.ensures.digits.1 c.nearest_root-q.ensures)
 
 pub returns : goal.returns
 returns c = record {

@@ -1,4 +1,5 @@
 use Rattle.std.proofs.Common.{refl, ◌∙◌}
+use Rattle.std.specs.Bool.{passes}
 use Rattle.elementary.proofs.RootCases as on
 use Rattle.elementary.proofs.sqrt.sqrt.Goals as goal
 
@@ -39,7 +40,7 @@ returns-then-x-3 c =
       infinity = λ h. h;
       below = λ h. absurd (on.zero_not_below x (on.is_zero x c.if-x-3.true) h);
       nothing = λ h. h;
-      defined = on.zero_root x (on.is_zero x c.if-x-3.true);
+      defined = on.zero_root x (passes _ c.well_formed.0.1) (on.is_zero x c.if-x-3.true);
     }
 
 pub returns-else-x-3 : goal.returns-else-x-3
