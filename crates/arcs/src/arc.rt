@@ -4,6 +4,7 @@ ghost use Rattle.arcs.specs.Arcs.{rotated, sampled, plus_times, minus_times, pla
 
 use elementary::sixth_root::sixth_root;
 use elementary::trig::{sin_cos, tan};
+use floats::order::greater;
 use plane::bezpath::PathEl;
 use plane::cursor::Cursor;
 use plane::fault::ArcFault;
@@ -61,7 +62,7 @@ impl Arc {
     pub fn append_iter(&self, tolerance: f64) -> Result<ArcPath, ArcFault>
         ensures { Begins self.now tolerance result }
     {
-        let stretched = 1.1163 * (self.radii.x.max(self.radii.y) / tolerance);
+        let stretched = 1.1163 * (greater(self.radii.x, self.radii.y) / tolerance);
         if stretched <= MOST_STRETCHED {
             let n = divide(stretched, self.sweep_angle);
             let angle_step = self.sweep_angle / n;
@@ -117,7 +118,7 @@ impl ArcPath {
 fn divide(stretched: f64, sweep_angle: f64) -> f64
     ensures { result ≡ divided stretched sweep_angle }
 {
-    let n_err = sixth_root(stretched).max(3.999_999);
+    let n_err = greater(sixth_root(stretched), 3.999_999);
     (n_err * sweep_angle.abs() * (1.0 / (2.0 * PI))).ceil()
 }
 

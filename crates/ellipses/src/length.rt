@@ -4,6 +4,7 @@ ghost use Rattle.ellipses.specs.Lengths.{unlikeness, series as series_of, series
 
 use elementary::powers::{powi2, powi7};
 use elementary::sqrt::sqrt;
+use floats::order::greater;
 use plane::fault::ShapeFault;
 use plane::vec2::Vec2;
 use std::f64::consts::PI;
@@ -22,7 +23,7 @@ pub fn length(radii: Vec2, accuracy: f64, allowance: u32) -> Result<(f64, u32), 
     if radii.x.is_finite() && radii.y.is_finite() {
         if radii.x == 0.0 || radii.y == 0.0 {
             // A line, there and back.
-            Ok((4.0 * radii.x.max(radii.y), 0))
+            Ok((4.0 * greater(radii.x, radii.y), 0))
         } else if series_range(radii) <= accuracy {
             Ok((series_length(radii), 0))
         } else {

@@ -3,4 +3,5 @@
 #![tactic(auto)]
 
 pub mod laws;
+pub mod order;
 pub mod page;

@@ -15,6 +15,7 @@ use super::cursor::Cursor;
 use super::fault::ShapeFault;
 use super::point::Point;
 use super::shape::{Shape, is_tolerance};
+use floats::order::{greater, lesser};
 
 /// A rectangle by two opposite corners. It may be reversed: nothing keeps x0 below x1, or y0 below y1.
 #[derive(Clone, Copy)]
@@ -56,10 +57,10 @@ impl Rect {
         ensures { result ≡ box self.now }
     {
         Rect {
-            x0: self.x0.min(self.x1),
-            y0: self.y0.min(self.y1),
-            x1: self.x0.max(self.x1),
-            y1: self.y0.max(self.y1),
+            x0: lesser(self.x0, self.x1),
+            y0: lesser(self.y0, self.y1),
+            x1: greater(self.x0, self.x1),
+            y1: greater(self.y0, self.y1),
         }
     }
 
@@ -69,10 +70,10 @@ impl Rect {
         ensures { result ≡ joined self.now other }
     {
         Rect::new(
-            self.x0.min(other.x0),
-            self.y0.min(other.y0),
-            self.x1.max(other.x1),
-            self.y1.max(other.y1),
+            lesser(self.x0, other.x0),
+            lesser(self.y0, other.y0),
+            greater(self.x1, other.x1),
+            greater(self.y1, other.y1),
         )
     }
 

@@ -10,6 +10,7 @@ ghost use Rattle.rounded.specs.Roundings.{made_of, middle, area_of, length_of, r
 ghost use Rattle.rounded.specs.Shrunk.{twice, RuleOfRounded};
 
 use super::rounded_rect_radii::RoundedRectRadii;
+use floats::order::{greater, lesser};
 use plane::point::Point;
 use plane::rect::Rect;
 use plane::vec2::Vec2;
@@ -165,7 +166,7 @@ const fn repaired(rect: Rect, radii: RoundedRectRadii) -> RoundedRect
     ensures { result ≡ made_of rect radii }
 {
     let b = rect.abs();
-    let shorter = b.width().min(b.height());
+    let shorter = lesser(b.width(), b.height());
     RoundedRect {
         rect: b,
         radii: radii.abs().clamp(shorter / 2.0),
@@ -193,7 +194,7 @@ fn radius_at(radii: RoundedRectRadii, v: Vec2) -> f64
 const fn past(half: f64, radius: f64, x: f64) -> f64
     ensures { result ≡ beyond half radius x }
 {
-    (x.abs() - (half - radius).max(0.0)).max(0.0)
+    greater(x.abs() - greater(half - radius, 0.0), 0.0)
 }
 
 // What the corners add to the area: negative. The sum starts at -0.0, which leaves any first summand as it is.

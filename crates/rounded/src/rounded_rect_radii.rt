@@ -2,6 +2,8 @@
 ghost use Rattle.std.specs.Prelude.{◌≡◌};
 ghost use Rattle.rounded.specs.Radii.{radii, sizes, at_most, all_finite};
 
+use floats::order::lesser;
+
 /// A radius for each corner of a rounded rectangle. The top is where y is smaller.
 #[derive(Clone, Copy)]
 pub struct RoundedRectRadii {
@@ -62,10 +64,10 @@ impl RoundedRectRadii {
         ensures { result ≡ at_most max self.now }
     {
         RoundedRectRadii::new(
-            self.top_left.min(max),
-            self.top_right.min(max),
-            self.bottom_right.min(max),
-            self.bottom_left.min(max),
+            lesser(self.top_left, max),
+            lesser(self.top_right, max),
+            lesser(self.bottom_right, max),
+            lesser(self.bottom_left, max),
         )
     }
 

@@ -12,6 +12,7 @@ ghost use Rattle.shapes.specs.Triangles.{box as triangle_box, wind as triangle_w
 ghost use Rattle.shapes.specs.Corners.{twice_area, RuleOfTriangle};
 ghost use Rattle.shapes.specs.Threecornered.{triangle_lawful, triangle_formed};
 
+use floats::order::{greater, lesser};
 use plane::bezpath::PathEl;
 use plane::cursor::Cursor;
 use plane::fault::ShapeFault;
@@ -98,10 +99,10 @@ impl Triangle {
         ensures { result ≡ box self.now }
     {
         Rect::new(
-            self.a.x.min(self.b.x.min(self.c.x)),
-            self.a.y.min(self.b.y.min(self.c.y)),
-            self.a.x.max(self.b.x.max(self.c.x)),
-            self.a.y.max(self.b.y.max(self.c.y)),
+            lesser(self.a.x, lesser(self.b.x, self.c.x)),
+            lesser(self.a.y, lesser(self.b.y, self.c.y)),
+            greater(self.a.x, greater(self.b.x, self.c.x)),
+            greater(self.a.y, greater(self.b.y, self.c.y)),
         )
     }
 
