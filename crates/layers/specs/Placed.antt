@@ -100,7 +100,7 @@ surrounded {v} {w} a b c d A h V W = go h
     wv = level W V
 
     go : Between a v d → T (le (float_min (float_min a b) (float_min c d)) w) × T (le w (float_max (float_max a b) (float_max c d)))
-    go (inl g) = (le_trans _ a w A.Under-first (le_trans a v w g.0 vw), le_trans w v _ wv (le_trans v d _ g.1 A.over_last))
+    go (inl g) = (le_trans _ a w A.under_first (le_trans a v w g.0 vw), le_trans w v _ wv (le_trans v d _ g.1 A.over_last))
     go (inr g) = (le_trans _ d w A.under_last (le_trans d v w g.0 vw), le_trans w v _ wv (le_trans v a _ g.1 A.over_first))
 
 side : (x : Float) (k : ℤ) (i n : ℕ) → In x k i n → T (finite x)

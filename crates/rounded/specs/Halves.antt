@@ -1,7 +1,7 @@
 -- Half of a float: a division by 2 is a product with 1/2. It is exact on numbers over a power of two, and keeps what is at least 0. Assumes nothing.
-use Rattle.std.specs.Prelude.{◌≡◌, ℕ, ◌+◌, ◌*◌, ◌^◌, true, false, not, T, ℤ, pos, ◌*ℤ◌, is_nan, nat_le, nat_lt, refl, Float}
+use Rattle.std.specs.Prelude.{◌≡◌, ℕ, ◌+◌, ◌*◌, ◌^◌, true, false, not, T, ℤ, pos, ◌*ℤ◌, nat_le, nat_lt, refl, Float}
 use Rattle.std.proofs.Common.{sym, subst, arith, lit≤}
-use Rattle.std.specs.Float.Ieee.{unlike, up, down, of_bits, round, mul, div, lt, le, eq}
+use Rattle.std.specs.Float.Ieee.{unlike, up, down, of_bits, round, mul, div, lt, le, eq, is_nan}
 use Rattle.std.specs.Float.Ieee.Scale.{finite}
 use Rattle.std.specs.Float.{float_zero as zeroF, nan, inf, fin, binary64}
 use Rattle.std.proofs.lemmas.Int.{ints}

@@ -11,7 +11,7 @@ invariant_of-result c =
     let n = c.args.self.map in
     let m = c.args.other.map in
     let on : T (page_offset (product n m)) = subst (λ (a : Affine). T (page_offset a)) c.mul-map.ensures (passes _ (sym c.if-has_page_offset.ensures)) in
-    (subst (λ (a : Affine). T (is_move a)) (sym c.mul-map.ensures) (product_move n m c.args.self.lawful c.args.other.lawful on), tt)
+    record { lawful = subst (λ (a : Affine). T (is_move a)) (sym c.mul-map.ensures) (product_move n m c.args.self.lawful c.args.other.lawful on) }
 
 pub returns-then-has_page_offset : goal.returns-then-has_page_offset
 returns-then-has_page_offset c = record {

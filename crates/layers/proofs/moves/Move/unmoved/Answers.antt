@@ -5,4 +5,4 @@ use Rattle.layers.specs.Whole.{unmoved_move}
 use Rattle.layers.proofs.moves.Move.unmoved.Goals as goal
 
 pub invariant_of-result : goal.invariant_of-result
-invariant_of-result c = (subst (λ (m : Affine). T (is_move m)) (sym c.new.ensures) unmoved_move, tt)
+invariant_of-result c = record { lawful = subst (λ (m : Affine). T (is_move m)) (sym c.new.ensures) unmoved_move }
