@@ -1,10 +1,10 @@
 -- The text is `nan`, or sixteen digits of a pattern that is not a NaN's. Assumes nothing.
-use Rattle.std.proofs.Common.{sym, refl, ◌∙◌, search, rules}
+use Rattle.std.proofs.Common.{◌≡◌, codes, sym, ◌∙◌, rules}
 use Rattle.cases.proofs.Numerals.{of_pattern, of_nan}
 use Rattle.cases.proofs.number.read.Goals as goal
 
 pub returns-then-eq : goal.returns-then-eq
-returns-then-eq c = of_nan c.args.word.now (bytes_same _ _ (passes _ (sym c.if-eq.ensures)))
+returns-then-eq c = let same : c.args.word.now ≡ codes "nan" = search rules in of_nan c.args.word.now same
 
 pub returns-else-is_nan : goal.returns-else-is_nan
 returns-else-is_nan c =
