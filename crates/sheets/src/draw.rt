@@ -69,7 +69,7 @@ fn path_at<M: Shape>(entry: Entry<M>, position: usize, tolerance: f64) -> Result
 
 // What a path leaves of the places that are left.
 fn spend<C: Cursor + Drop>(path: C, left: Option<usize>) -> Option<usize>
-    ensures { result ≡ spent left (length (rest path)) }
+    ensures { result ≡ spent left (length (C.Cursor.rest path)) }
 {
     match left {
         Some(places) => room_left(path, places),
@@ -79,7 +79,7 @@ fn spend<C: Cursor + Drop>(path: C, left: Option<usize>) -> Option<usize>
 
 // What a path leaves of so many places, if it fits.
 fn room_left<C: Cursor + Drop>(mut path: C, places: usize) -> Option<usize>
-    ensures { result ≡ left_of places (length (rest path)) }
+    ensures { result ≡ left_of places (length (C.Cursor.rest path)) }
 {
     let mut left = places;
     while let Some(_) = path.next() {
@@ -114,10 +114,10 @@ fn pour_all<M: Shape>(
 
 // Writes a path, moved, from the place `at` on, and answers where it ends.
 fn pour<C: Cursor + Drop>(mut path: C, place: Affine, buffer: &mut [PathEl], at: usize) -> usize
-    requires { at + length (rest path) ≤ length buffer.old }
-    ensures end { result ≡ at + length (rest path) }
+    requires { at + length (C.Cursor.rest path) ≤ length buffer.old }
+    ensures end { result ≡ at + length (C.Cursor.rest path) }
     ensures within { result ≤ length buffer.new }
-    ensures front { take result buffer.new ≡ take at buffer.old ++ map (image_el place) (rest path) }
+    ensures front { take result buffer.new ≡ take at buffer.old ++ map (image_el place) (C.Cursor.rest path) }
     ensures back { drop result buffer.new ≡ drop result buffer.old }
 {
     let mut k = at;
