@@ -1,11 +1,11 @@
 -- The angle of a vector along an axis is the constant. Assumes nothing.
-use Rattle.std.proofs.Common.{◌≡◌, ℕ, zero, suc, ◌+◌, ◌*◌, ◌<◌, ◌≤◌, Bool, true, false, cond, ◌||◌, T, eqb, ltb, ℤ, pos, nat_abs, sym, refl, ap, ◌∙◌, subst, true≢false, mul-pos, zero-mul, arith, ltb→lt, lt→ltb, le-ltb, ne_eqb}
+use Rattle.std.proofs.Common.{◌≡◌, ℕ, zero, suc, ◌*◌, ◌<◌, Bool, true, false, cond, ◌||◌, T, ℤ, pos, nat_abs, sym, refl, ap, ◌∙◌, subst, mul-pos, zero-mul, arith, ltb→lt, lt→ltb, le-ltb, ne_eqb}
 use lib.Signed.{lt_z}
-use lib.Ieee.{Float, nan, inf, fin, binary64, up, down, unlike, of_bits, of_int, round, add, sub, mul, div, neg, lt, le, eq, is_nan, to_signed}
+use lib.Ieee.{Float, nan, inf, fin, binary64, up, down, of_bits, of_int, round, add, sub, mul, div, neg, lt, le, eq, is_nan, to_signed}
 use lib.Ieee.Fits.{down_pos, up_pos}
 use Rattle.std.specs.Float.{float_with_sign, is_sign_negative, float_is_infinite, round_with}
 use Rattle.std.proofs.num.Values.{round-zero}
-use Rattle.floats.specs.Value.{signed, Is}
+use Rattle.floats.specs.Value.{signed}
 use Rattle.floats.proofs.Compared.{is_lt, is_ne}
 use Rattle.elementary.specs.Angles.{one, not_a_number, pi, half_pi, sin_cos, slope, nearer, small_angle, first_quarter, first_half, angle}
 use Rattle.elementary.specs.Laws.{zero as nought}

@@ -1,5 +1,5 @@
 -- Bounds by powers of two go through sums, differences, products and quotients, as computed. Assumes nothing.
-use Rattle.std.proofs.Common.{◌≡◌, ℕ, zero, suc, ◌+◌, ◌*◌, ◌%◌, ◌^◌, ◌<◌, ◌≤◌, max, Bool, true, false, cond, T, eqb, ltb, leb, ℤ, pos, ◌+ℤ◌, ◌-ℤ◌, ◌*ℤ◌, neg_ℤ, nat_abs, ◌≤ℤ◌, sym, refl, ap, ◌∙◌, subst, mul-le-mul_right, mul-le-mul, mul-le-mul_left, mul-pos, one-mul, arith, le→leb, ltb→lt, lt→ltb, leb→le, pow_pos, pow_mono, pow-add, ne_eqb}
+use Rattle.std.proofs.Common.{◌≡◌, ℕ, zero, suc, ◌+◌, ◌*◌, ◌^◌, ◌<◌, ◌≤◌, Bool, true, false, cond, T, eqb, ltb, leb, ℤ, pos, ◌+ℤ◌, ◌*ℤ◌, neg_ℤ, nat_abs, sym, refl, ap, ◌∙◌, subst, mul-le-mul_right, mul-le-mul, mul-pos, one-mul, arith, le→leb, ltb→lt, lt→ltb, leb→le, pow_mono, pow-add, ne_eqb}
 use native.Mathlib.Nat.{pow-succ'}
 use lib.Pow.{pow-lt}
 use lib.Ieee.{Float, nan, inf, fin, binary64, up, down, unlike, round, add, sub, mul, div, neg, le, fits, of_int}
@@ -11,11 +11,11 @@ use Rattle.std.proofs.num.FloatSigns.{signed_round}
 use Rattle.std.proofs.lemmas.Int.{ints}
 use Rattle.floats.specs.Value.{signed, Is, Rounds}
 use Rattle.floats.specs.Page.{UpTo}
-use Rattle.floats.proofs.Rounded.{abs_signed, rounds_add, rounds_sub, rounds_mul, is_neg}
-use Rattle.floats.proofs.Bounds.{abs_add, abs_sub, abs_mul, abs_neg_le}
+use Rattle.floats.proofs.Rounded.{abs_signed, rounds_add, rounds_mul, is_neg}
+use Rattle.floats.proofs.Bounds.{abs_add, abs_mul, abs_neg_le}
 use Rattle.floats.proofs.Monotone.{rounds_mono, rounds_self}
 use Rattle.floats.proofs.Compared.{is_le}
-use Rattle.floats.proofs.Sums.{Common, common}
+use Rattle.floats.proofs.Sums.{common}
 use Rattle.floats.proofs.Sizes.{up_to_only, up_to_every, abs_is, is_finite}
 use Rattle.floats.proofs.Grids.{whole_float}
 

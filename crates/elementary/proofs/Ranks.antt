@@ -1,5 +1,5 @@
 -- The least sixteenth whose sixth power is enough is one number, and keeps the order. Assumes nothing.
-use Rattle.std.proofs.Common.{◌≡◌, ℕ, suc, ◌*◌, ◌^◌, ◌<◌, ◌≤◌, ◌⊎◌, inl, inr, mul-le-mul_right, le_antisymm, mul-lt-mul_of_pos_right, arith, lit≤}
+use Rattle.std.proofs.Common.{ℕ, ◌*◌, ◌^◌, ◌<◌, ◌≤◌, inl, inr, mul-le-mul_right, le_antisymm, mul-lt-mul_of_pos_right, arith, lit≤}
 use Rattle.floats.proofs.Rounded.{order}
 use Rattle.elementary.specs.SixthRoots.{LeastSixth}
 use Rattle.elementary.specs.Laws.{SixthRoots}

@@ -1,12 +1,12 @@
 -- A float times a power of two is exact while it does not overflow, and a float rounded up to a whole number is the least whole number that is no smaller. Assumes nothing.
-use Rattle.std.proofs.Common.{◌≡◌, ℕ, zero, suc, ◌+◌, ◌-◌, ◌*◌, ◌/◌, ◌^◌, ◌<◌, ◌≤◌, min, Bool, true, false, cond, T, ◌⊎◌, ℤ, pos, negsuc, sym, refl, ap, ◌∙◌, subst, inl, inr, true≢false, lt_of_le_of_lt, mul-le-mul_right, mul_assoc, mul_comm, div-lt_iff_lt-mul, lt_of_mul-lt-mul_right, mul-le-mul_left, mul-lt-mul_of_pos_right, mul-pos, zero-mul, mul-one, div-mul-le_self, le_of_mul-le-mul_right, div-one, arith, lit<, lit≤, pow_pos, pow_mono, pow-add}
+use Rattle.std.proofs.Common.{◌≡◌, ℕ, zero, suc, ◌+◌, ◌-◌, ◌*◌, ◌/◌, ◌^◌, ◌<◌, ◌≤◌, min, Bool, true, false, T, ℤ, pos, negsuc, sym, refl, ap, ◌∙◌, subst, inl, inr, true≢false, lt_of_le_of_lt, mul-le-mul_right, mul_assoc, lt_of_mul-lt-mul_right, mul-le-mul_left, mul-lt-mul_of_pos_right, mul-one, div-mul-le_self, le_of_mul-le-mul_right, div-one, arith, lit≤, pow_pos, pow_mono, pow-add}
 use mathlib.Core.Bool.{false≢true}
 use native.Mathlib.Nat.{lt-div-mul-add, mul-div_left, zero-div, div-eq_of_lt, eq_of_mul-eq-mul_right, pow-succ'}
 use Rattle.std.proofs.lemmas.Int.{ints}
 use Rattle.std.proofs.num.Values.{round-zero}
 use lib.Pow.{pow-lt}
-use lib.Ieee.{Float, nan, inf, fin, Format, binary64, prec, emax, low, unlike, up, down, round, mul, to_unsigned, fits}
-use lib.Ieee.Fits.{down_pos, up_pos}
+use lib.Ieee.{Float, nan, inf, fin, Format, binary64, prec, emax, low, up, down, round, mul, to_unsigned, fits}
+use lib.Ieee.Fits.{down_pos}
 use lib.Ieee.Exact.{HasValue, round_exact}
 use Rattle.std.specs.Float.{ceil, ratio_ceil, ratio_floor, round_with}
 use Rattle.floats.specs.Value.{signed, Is}

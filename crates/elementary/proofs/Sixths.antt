@@ -1,5 +1,5 @@
 -- Sixth powers, and the least sixteenth whose sixth power is enough. Assumes nothing.
-use Rattle.std.proofs.Common.{◌≡◌, ℕ, zero, suc, ◌+◌, ◌*◌, ◌^◌, ◌<◌, ◌≤◌, Bool, true, false, cond, not, ◌&&◌, T, leb, ◌⊎◌, ℤ, pos, sym, refl, ap, ◌∙◌, subst, inl, inr, add-zero, mul-le-mul_right, zero-mul, le_of_mul-le-mul_right, arith, lit<, lit≤, le→leb, leb→le}
+use Rattle.std.proofs.Common.{◌≡◌, ℕ, zero, suc, ◌+◌, ◌*◌, ◌^◌, ◌<◌, ◌≤◌, Bool, true, false, cond, not, ◌&&◌, T, leb, ℤ, pos, sym, refl, ap, ◌∙◌, subst, inl, inr, add-zero, mul-le-mul_right, zero-mul, le_of_mul-le-mul_right, arith, lit<, lit≤, le→leb, leb→le}
 use native.Mathlib.Nat.{pow-succ', pow-zero, pow-le-pow_left, eq_of_mul-eq-mul_right}
 use lib.Dec.{nleb→lt}
 use lib.Signed.{le_z}

@@ -1,18 +1,16 @@
 -- The laws of the angles: the count of quarter turns, finite answers, and the axes. Assumes nothing.
-use Rattle.std.proofs.Common.{◌≡◌, ℕ, zero, suc, ◌+◌, ◌*◌, ◌/◌, ◌%◌, ◌^◌, ◌<◌, ◌≤◌, Bool, true, false, cond, T, eqb, ltb, leb, List, [], ◌∷◌, ℤ, pos, nat_abs, sym, refl, ap, ◌∙◌, subst, arith, lit≤}
-use Prim.Native.Nat.{compare}
+use Rattle.std.proofs.Common.{◌≡◌, ℕ, suc, ◌+◌, ◌^◌, ◌<◌, ◌≤◌, Bool, true, false, cond, T, eqb, ltb, leb, ℤ, pos, nat_abs, sym, refl, subst, arith}
 use lib.IntN.{+ℤ_idr}
-use lib.Ieee.{Float, nan, inf, fin, binary64, of_bits, add, sub, mul, div, neg, lt, le, eq}
+use lib.Ieee.{Float, nan, inf, fin, binary64, of_bits, add, mul, neg, lt, le, eq}
 use lib.Ieee.Scale.{finite}
 use Rattle.std.specs.Float.{float_with_sign, round_ties_even}
 use Rattle.floats.specs.Value.{Is, Val}
 use Rattle.floats.proofs.Exactly.{val_add}
-use Rattle.floats.proofs.Sizes.{up_to_only}
-use Rattle.elementary.specs.Angles.{one, half_pi, half_pi_rest, two_over_pi, quarters, left_over, folded, series, near_sine, near_cosine, turned, quarter, largest_angle, sin_cos}
+use Rattle.elementary.specs.Angles.{one, half_pi, half_pi_rest, two_over_pi, quarters, left_over, folded, near_sine, near_cosine, turned, quarter, largest_angle, sin_cos}
 use Rattle.elementary.specs.Laws.{Taken, NearestWhole, Angles}
 use Rattle.elementary.proofs.Axes.{at_nought, right, above, left, below}
-use Rattle.elementary.proofs.Quarters.{Rounded, rounded, is_read}
-use Rattle.elementary.proofs.Most.{Most, most_finite, most_more, most_mul, most_add, most_sub, most_neg, most_div, most_tested}
+use Rattle.elementary.proofs.Quarters.{rounded, is_read}
+use Rattle.elementary.proofs.Most.{Most, most_finite, most_more, most_mul, most_sub, most_div, most_tested}
 
 -- ---- bounds of the constants
 one_most : Most one 0

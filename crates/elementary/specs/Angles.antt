@@ -1,5 +1,5 @@
 -- Sine, cosine, tangent and the angle of a vector: by which steps they are computed. Assumes nothing.
-use Rattle.std.specs.Prelude.{ℕ, Bool, true, false, cond, ◌||◌, List, [], ◌∷◌, ℤ, pos, ◌==◌, from_bits, is_nan, unsigned_abs, Float}
+use Rattle.std.specs.Prelude.{ℕ, Bool, false, cond, ◌||◌, List, [], ◌∷◌, pos, ◌==◌, from_bits, is_nan, unsigned_abs, Float}
 use Rattle.std.specs.Float.Ieee.{of_int, add, sub, mul, div, neg, lt, le, eq, to_signed}
 use Rattle.std.specs.Float.{float_with_sign, is_sign_negative, float_is_infinite, round_ties_even, binary64}
 use Rattle.std.specs.Int.{int_rem_euclid}

@@ -1,6 +1,6 @@
 -- What the elementary functions mean beyond the steps by which they are computed. Assumes nothing.
 use Rattle.std.specs.Prelude.{◌≡◌, ℕ, ◌*◌, ◌^◌, ◌<◌, ◌≤◌, false, T, ℤ, pos, ◌-ℤ◌, ◌*ℤ◌, from_bits, unsigned_abs, Float}
-use Rattle.std.specs.Float.Ieee.{round, mul, neg, lt, le, fits, to_signed}
+use Rattle.std.specs.Float.Ieee.{round, mul, neg, lt, le, to_signed}
 use Rattle.std.specs.Float.Ieee.Scale.{finite}
 use Rattle.std.specs.Float.{float_with_sign, nan, binary64}
 use Rattle.floats.specs.Value.{Is}

@@ -1,9 +1,8 @@
 -- The winding of an ellipse keeps the laws of windings, and its path is well formed. Assumes nothing.
-use Rattle.std.specs.Prelude.{◌≡◌, Bool, true, false, cond, ◌&&◌, T, ◌⊎◌, ℤ, pos, None, Ok, Err, ◌≢◌, refl, Float}
+use Rattle.std.specs.Prelude.{◌≡◌, Bool, true, false, cond, ◌&&◌, T, ℤ, pos, None, Ok, Err, ◌≢◌, refl, Float}
 use Rattle.std.proofs.Common.{inl, inr}
-use Rattle.std.specs.Float.Ieee.{lt, le}
+use Rattle.std.specs.Float.Ieee.{le}
 use Rattle.std.specs.Float.Ieee.Fits.{and_l, and_r}
-use Rattle.floats.specs.Zeros.{Alike}
 use Rattle.floats.proofs.Alike.{zeros_agree}
 use Rattle.plane.specs.declared.affine.Affine.{Affine}
 use Rattle.plane.specs.declared.point.Point.{Point}

@@ -1,11 +1,11 @@
 -- The operations of `f64` on numbers over a power of two, with a bound on the numerator's size that is a numeral: each side condition is `tt`. Assumes nothing.
-use Rattle.std.proofs.Common.{◌≡◌, ℕ, ◌+◌, ◌*◌, ◌^◌, ◌<◌, ◌≤◌, Bool, true, false, cond, ◌||◌, T, ltb, leb, ℤ, pos, ◌+ℤ◌, ◌-ℤ◌, ◌*ℤ◌, neg_ℤ, nat_abs, sym, refl, ◌∙◌, subst, lt_of_le_of_lt, arith, ltb→lt, leb→le, pow_pos}
+use Rattle.std.proofs.Common.{◌≡◌, ℕ, ◌+◌, ◌*◌, ◌^◌, Bool, true, false, cond, ◌||◌, T, ltb, leb, ℤ, pos, ◌+ℤ◌, ◌-ℤ◌, ◌*ℤ◌, neg_ℤ, nat_abs, sym, refl, ◌∙◌, subst, lt_of_le_of_lt, arith, ltb→lt, leb→le, pow_pos}
 use lib.Signed.{lt_z, le_z}
 use lib.Ieee.{Float, nan, inf, fin, binary64, add, sub, mul, neg, lt, le, eq, is_nan}
 use Rattle.std.specs.Float.{float_with_sign, float_min, float_max}
 use Rattle.std.specs.Int.{int_min, int_max}
 use Rattle.std.proofs.lemmas.Int.{ints, by_lt_z}
-use Rattle.floats.specs.Value.{Is, Val, In}
+use Rattle.floats.specs.Value.{Is, In}
 use Rattle.floats.proofs.Exactly.{val_add, val_sub, val_mul, val_neg}
 use Rattle.floats.proofs.Bounds.{abs_add, abs_sub, abs_mul, abs_neg_le}
 use Rattle.floats.proofs.Compared.{is_lt, is_le, is_eq_test, eqZ}

@@ -3,13 +3,13 @@ use Rattle.std.proofs.Common.{◌≡◌, ℕ, ◌^◌, ◌<◌, ◌≤◌, T, �
 use lib.Ieee.{Float, binary64, round, sub, le, eq, fits}
 use lib.Ieee.Fits.{round-fits}
 use lib.Ieee.Scale.{finite}
-use Rattle.floats.specs.Value.{Is, Val, Rounds}
+use Rattle.floats.specs.Value.{Val, Rounds}
 use Rattle.floats.specs.Zeros.{Alike}
 use Rattle.floats.proofs.Rounded.{rounds_sub}
 use Rattle.floats.proofs.Exactly.{exact}
 use Rattle.floats.proofs.Compared.{is_le, is_eq}
 use Rattle.floats.proofs.Alike.{rounds_alike}
-use Rattle.floats.proofs.Sums.{Common, common}
+use Rattle.floats.proofs.Sums.{common}
 use Rattle.floats.proofs.Sizes.{eq_is, is_finite}
 
 pub record Held (x : Float) : Type 0 where

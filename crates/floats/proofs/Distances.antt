@@ -1,5 +1,5 @@
 -- How far a point is from a float box: the test of a circle by squared distances accepts only points of its box. Assumes nothing.
-use Rattle.std.proofs.Common.{◌≡◌, ℕ, ◌*◌, ◌<◌, ◌≤◌, Bool, true, false, not, T, ◌⊎◌, ℤ, pos, negsuc, ◌+ℤ◌, ◌-ℤ◌, ◌*ℤ◌, neg_ℤ, nat_abs, ◌≤ℤ◌, sym, refl, ap, subst, inl, inr, mul-le-mul, mul-pos, arith}
+use Rattle.std.proofs.Common.{◌≡◌, ℕ, ◌*◌, ◌<◌, ◌≤◌, true, false, not, T, ◌⊎◌, ℤ, pos, negsuc, ◌+ℤ◌, ◌-ℤ◌, ◌*ℤ◌, neg_ℤ, nat_abs, ◌≤ℤ◌, refl, ap, subst, inl, inr, mul-le-mul, mul-pos, arith}
 use lib.IntN.{negsuc-*ℤ-negsuc}
 use lib.Ieee.{Float, nan, inf, fin, Format, binary32, binary64, add, sub, mul, neg, lt, le, fits, is_nan}
 use lib.Ieee.Fits.{mul-fits, neg-fits}
@@ -10,7 +10,7 @@ use Rattle.std.proofs.lemmas.Int.{ints, by_lt_z}
 use Rattle.floats.specs.Value.{Is}
 use Rattle.floats.proofs.Rounded.{is_neg, rounds_add, rounds_sub, rounds_mul}
 use Rattle.floats.proofs.Monotone.{rounds_mono, rounds_self, le_inf, round_number}
-use Rattle.floats.proofs.Sums.{Common, common, order_of, zero_of, add_comm, sub_number}
+use Rattle.floats.proofs.Sums.{common, order_of, zero_of, add_comm, sub_number}
 
 -- ---- what is left of fl(x - r), or right of fl(x + r), is r away from x
 pub left_of : (f : Format) (x r p : Float) → T (finite x) → T (finite r) → T (finite p) → T (fits f r) → T (fits f p) → T (lt p (sub f x r)) → T (le (sub f p x) (neg r))

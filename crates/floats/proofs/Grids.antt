@@ -1,13 +1,12 @@
 -- The grid numbers are just the floats that survive a sum where floats are 1/256 apart. Assumes nothing.
-use Rattle.std.proofs.Common.{◌≡◌, ℕ, zero, suc, ◌+◌, ◌-◌, ◌*◌, ◌^◌, ◌<◌, ◌≤◌, Bool, true, false, not, T, ◌⊎◌, ℤ, pos, negsuc, ◌+ℤ◌, ◌-ℤ◌, nat_abs, sym, refl, ap, ◌∙◌, subst, inl, inr, arith, lit≤, le→leb, ltb→lt, leb→le, pow_pos, pow_mono, pow-add}
-use lib.Signed.{lt_z, le_z}
-use lib.Ieee.{Float, nan, inf, fin, binary64, of_bits, of_int, up, down, add, sub, lt, le, eq, fits, is_nan}
-use lib.Ieee.Fits.{down_pos, add-fits}
+use Rattle.std.proofs.Common.{◌≡◌, ℕ, zero, suc, ◌+◌, ◌-◌, ◌*◌, ◌^◌, ◌<◌, ◌≤◌, true, false, not, T, ℤ, pos, negsuc, ◌+ℤ◌, ◌-ℤ◌, nat_abs, sym, refl, ap, ◌∙◌, subst, inl, inr, arith, lit≤, ltb→lt, leb→le, pow_pos, pow_mono, pow-add}
+use lib.Ieee.{Float, nan, inf, fin, binary64, of_bits, of_int, add, sub, lt, le, eq, fits, is_nan}
+use lib.Ieee.Fits.{add-fits}
 use lib.Ieee.Scale.{finite}
 use Rattle.std.specs.Float.{float_zero as zeroF, float_with_sign}
 use Rattle.std.specs.Float.Order.{not_above_negative, at_least_lem, le_of_lt, le_of_not-lt, lt_of_le_of_lt}
 use Rattle.std.proofs.lemmas.Int.{ints}
-use Rattle.floats.specs.Value.{signed, Is, Val}
+use Rattle.floats.specs.Value.{Is, Val}
 use Rattle.floats.specs.Page.{GridNumber, UpTo}
 use Rattle.floats.specs.Coarse.{back, coarse as limit}
 use Rattle.floats.proofs.Rounded.{order}

@@ -1,11 +1,11 @@
 -- Rounding keeps the order, of numbers of either sign; and a float that its format holds is its own rounding. Assumes nothing.
-use Rattle.std.proofs.Common.{◌≡◌, ℕ, zero, suc, ◌+◌, ◌-◌, ◌*◌, ◌%◌, ◌^◌, ◌<◌, ◌≤◌, Bool, true, false, cond, not, ◌&&◌, ◌||◌, T, eqb, ltb, leb, ◌⊎◌, ℤ, pos, negsuc, neg_ℤ, ◌≤ℤ◌, ◌<ℤ◌, sym, refl, ap, ◌∙◌, subst, inl, inr, true≢false, mul-le-mul_right, lt_of_mul-lt-mul_right, mul-lt-mul_of_pos_right, mul-pos, arith, eqb→eq, ltb→lt, leb→le, pow_pos, pow-add, lt-ltb, eq-eqb}
+use Rattle.std.proofs.Common.{◌≡◌, ℕ, zero, suc, ◌+◌, ◌-◌, ◌*◌, ◌%◌, ◌^◌, ◌<◌, ◌≤◌, Bool, true, false, cond, not, ◌&&◌, ◌||◌, T, eqb, ltb, leb, ℤ, pos, negsuc, neg_ℤ, ◌≤ℤ◌, sym, refl, ap, ◌∙◌, subst, inl, inr, true≢false, mul-le-mul_right, lt_of_mul-lt-mul_right, mul-lt-mul_of_pos_right, mul-pos, arith, eqb→eq, ltb→lt, leb→le, pow_pos, pow-add, lt-ltb}
 use mathlib.Core.Bool.{false≢true}
 use native.Mathlib.Nat.{pow-succ', eq_of_mul-eq-mul_right}
-use lib.Signed.{lt_z, le_z}
+use lib.Signed.{le_z}
 use lib.Pow.{pow-lt}
-use lib.Ieee.{Float, nan, inf, fin, Format, prec, emax, low, up, down, odd, units, round, neg, lt, le, fits, is_nan}
-use lib.Ieee.Fits.{down_pos, up_pos, and_l, and_r, round_is, round-fits}
+use lib.Ieee.{Float, nan, inf, fin, Format, prec, emax, low, up, down, odd, units, round, neg, le, fits, is_nan}
+use lib.Ieee.Fits.{down_pos, and_l, and_r, round_is, round-fits}
 use lib.Ieee.Exact.{HasValue, odd_sign, round_exact}
 use lib.Ieee.Order.{round_mono}
 use lib.Ieee.Scale.{round_same}
@@ -13,7 +13,7 @@ use Rattle.std.proofs.num.Values.{neg-round, round-zero, same_value}
 use Rattle.std.proofs.lemmas.Int.{ints}
 use Rattle.floats.specs.Value.{signed, Is, Rounds}
 use Rattle.floats.proofs.Rounded.{is_neg, order}
-use Rattle.floats.proofs.Compared.{is_lt, is_le}
+use Rattle.floats.proofs.Compared.{is_le}
 
 -- ---- any finite float, over a multiple of its own denominator
 pub own : (s : Bool) (m : ℕ) (e : ℤ) (q : ℕ) → Is (fin s m e) (signed s (m * up e * q)) (down e * q)

@@ -1,9 +1,9 @@
 -- The size of a float, floats that compare as equal, and which floats are at most a whole number in size. Assumes nothing.
-use Rattle.std.proofs.Common.{◌≡◌, ℕ, zero, suc, ◌+◌, ◌*◌, ◌<◌, ◌≤◌, Bool, true, false, not, ◌&&◌, ◌||◌, T, eqb, ◌⊎◌, ℤ, pos, negsuc, nat_abs, ◌≤ℤ◌, sym, refl, ap, ◌∙◌, subst, inl, inr, mul-pos, zero-mul, arith, le→leb, eqb→eq, leb→le}
+use Rattle.std.proofs.Common.{◌≡◌, ℕ, ◌*◌, ◌<◌, ◌≤◌, Bool, true, false, not, ◌||◌, T, eqb, ℤ, pos, nat_abs, sym, refl, ap, ◌∙◌, subst, mul-pos, zero-mul, arith, le→leb, eqb→eq, leb→le}
 use mathlib.Core.Bool.{beq}
 use native.Mathlib.Nat.{eq_of_mul-eq-mul_right}
 use lib.Signed.{le_z}
-use lib.Ieee.{Float, nan, inf, fin, up, down, level, lt, le, eq, is_nan}
+use lib.Ieee.{Float, nan, inf, fin, up, down, lt, le, eq, is_nan}
 use lib.Ieee.Fits.{down_pos, and_l, and_r}
 use lib.Ieee.Exact.{HasValue}
 use lib.Ieee.Scale.{finite}

@@ -1,5 +1,5 @@
 -- The laws of exactness and order, gathered from the lemmas. Assumes nothing.
-use Rattle.std.proofs.Common.{◌≡◌, ℕ, ◌^◌, Bool, true, false, T, ℤ, ◌≤ℤ◌, sym, refl, ◌∙◌, subst, true≢false, arith, pow_pos}
+use Rattle.std.proofs.Common.{◌≡◌, ℕ, ◌^◌, T, ℤ, ◌≤ℤ◌, sym, subst, arith, pow_pos}
 use lib.Signed.{le_z}
 use lib.Ieee.{Float, binary64, eq}
 use lib.Ieee.Fits.{and_l, and_r}

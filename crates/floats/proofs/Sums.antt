@@ -1,6 +1,5 @@
 -- Sums, differences and products keep the order of their operands, as computed. Assumes nothing.
-use Rattle.std.proofs.Common.{◌≡◌, ℕ, ◌+◌, ◌*◌, ◌<◌, ◌≤◌, Bool, true, false, not, T, ℤ, pos, negsuc, ◌+ℤ◌, ◌-ℤ◌, ◌*ℤ◌, ◌≤ℤ◌, sym, refl, ap, ◌∙◌, subst, mul_comm, mul-le-mul, mul-pos, arith}
-use lib.Signed.{le_z}
+use Rattle.std.proofs.Common.{◌≡◌, ℕ, ◌*◌, ◌<◌, ◌≤◌, Bool, true, false, not, T, ℤ, pos, negsuc, ◌+ℤ◌, ◌-ℤ◌, ◌*ℤ◌, ◌≤ℤ◌, sym, refl, ap, ◌∙◌, subst, mul_comm, mul-le-mul, mul-pos, arith}
 use lib.Ieee.{Float, nan, inf, fin, Format, up, down, sum, add, sub, mul, neg, le, is_nan}
 use lib.Ieee.Fits.{down_pos}
 use lib.Ieee.Scale.{finite}

@@ -1,5 +1,5 @@
 -- The tests for grid numbers and for sizes hold of just the numbers that they name. Assumes nothing.
-use Rattle.std.proofs.Common.{◌≡◌, ℕ, zero, suc, ◌+◌, ◌*◌, ◌/◌, ◌%◌, ◌^◌, ◌<◌, ◌≤◌, Bool, true, false, T, eqb, leb, ℤ, pos, nat_abs, sym, refl, ap, ◌∙◌, subst, div-add-mod', arith, eqb→eq}
+use Rattle.std.proofs.Common.{◌≡◌, ℕ, ◌*◌, ◌/◌, ◌%◌, ◌^◌, ◌<◌, Bool, true, false, T, eqb, leb, ℤ, pos, nat_abs, sym, refl, ap, ◌∙◌, subst, div-add-mod', arith, eqb→eq}
 use native.Mathlib.Nat.{mul-mod_left}
 use lib.Dec.{eqb_refl}
 use lib.Ieee.{Float, nan, inf, fin, binary64, of_int, up, down, eq}

@@ -1,5 +1,5 @@
 -- A placing moved on is placed by the product, where the page has room for it. Assumes nothing.
-use Rattle.std.proofs.Common.{◌≡◌, Bool, true, false, cond, T, Ok, Err, Result, sym, refl, ap, ◌∙◌}
+use Rattle.std.proofs.Common.{◌≡◌, Bool, true, false, cond, T, Ok, Err, Result, refl, ap, ◌∙◌}
 use Rattle.plane.specs.declared.affine.Affine.{Affine}
 use Rattle.plane.specs.Affines.{product}
 use Rattle.layers.specs.declared.fault.MoveFault.{MoveFault}

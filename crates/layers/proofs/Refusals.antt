@@ -1,5 +1,5 @@
 -- Which numbers make a move: those that nothing refuses. Assumes nothing.
-use Rattle.std.proofs.Common.{◌≡◌, ℕ, Bool, true, false, cond, ◌&&◌, T, Some, None, Option, sym, refl, ap, ◌∙◌, subst, arith}
+use Rattle.std.proofs.Common.{◌≡◌, ℕ, Bool, true, false, cond, ◌&&◌, Some, None, Option, sym, refl, ap, arith}
 use Rattle.plane.specs.declared.affine.Affine.{Affine}
 use Rattle.layers.specs.declared.fault.MoveFault.{MoveFault}
 use Rattle.layers.specs.declared.fault.MoveFault.TheVariants.{NotATurn, OffGrid, OffPage}

@@ -1,10 +1,8 @@
 -- A sign times a winding, as the machine computes it, and the winding of a placing from its parts. Assumes nothing.
-use Rattle.std.proofs.Common.{◌≡◌, Bool, true, false, cond, ◌&&◌, T, ◌⊎◌, ℤ, pos, negsuc, ◌*ℤ◌, sym, refl, ap, ◌∙◌, subst, inl, inr, lit<, w32, SFits, to_z, of_z}
-use lib.Ieee.{lt}
+use Rattle.std.proofs.Common.{◌≡◌, Bool, true, false, cond, ◌&&◌, ℤ, pos, negsuc, ◌*ℤ◌, sym, refl, ap, ◌∙◌, subst, inl, inr, lit<, w32, SFits, to_z, of_z}
 use Rattle.floats.specs.Page.{in_field}
 use Rattle.plane.specs.declared.affine.Affine.{Affine}
 use Rattle.plane.specs.declared.point.Point.{Point}
-use Rattle.plane.specs.Affines.{nought, det}
 use Rattle.plane.specs.Winding.{IsWinding}
 use Rattle.layers.specs.Moves.{sign, taken_back}
 use Rattle.layers.specs.Placings.{placed_wind}

@@ -1,10 +1,10 @@
 -- The laws of moves: forward and back undo each other, a product does what its parts do, and its sign is the product of the signs. Assumes nothing.
-use Rattle.std.specs.Prelude.{◌≡◌, ℕ, ◌+◌, Bool, cond, T, List, [], ◌∷◌, ℤ, pos, negsuc, ◌+ℤ◌, ◌-ℤ◌, ◌*ℤ◌, int_lt, refl, Float}
+use Rattle.std.specs.Prelude.{◌≡◌, ◌+◌, Bool, cond, T, [], ◌∷◌, ℤ, pos, negsuc, ◌+ℤ◌, ◌-ℤ◌, ◌*ℤ◌, int_lt, Float}
 use Rattle.std.proofs.Common.{sym, ap, ◌∙◌, subst}
 use Rattle.std.specs.Float.Ieee.{lt}
 use Rattle.floats.specs.Value.{Val, In}
 use Rattle.floats.proofs.Bounded.{in_sub, in_lt}
-use Rattle.floats.proofs.Ring.{Expr, num, ◌⊕◌, ◌⊖◌, ◌⊗◌, ◌⊜◌, ring}
+use Rattle.floats.proofs.Ring.{◌⊕◌, ◌⊖◌, ◌⊜◌, ring}
 use Rattle.plane.specs.declared.affine.Affine.{Affine}
 use Rattle.plane.specs.declared.point.Point.{Point}
 use Rattle.plane.specs.Affines.{nought, product, image, det}

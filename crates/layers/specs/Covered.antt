@@ -1,5 +1,5 @@
 -- A covering keeps the laws of windings where both shapes below do. Assumes nothing.
-use Rattle.std.specs.Prelude.{◌≡◌, Bool, true, false, cond, ◌&&◌, T, ℤ, pos, ◌≢◌, refl}
+use Rattle.std.specs.Prelude.{◌≡◌, Bool, true, false, cond, ◌&&◌, ℤ, pos, ◌≢◌, refl}
 use Rattle.std.specs.Float.Ieee.Fits.{and_l, and_r}
 use Rattle.std.specs.Bool.{passes}
 use Rattle.plane.specs.declared.point.Point.{Point}

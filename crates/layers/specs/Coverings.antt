@@ -1,5 +1,5 @@
 -- Coverings: what an upper shape and a lower one mean together. Assumes nothing.
-use Rattle.std.specs.Prelude.{Bool, cond, ◌&&◌, List, ◌++◌, ℤ, Ok, Err}
+use Rattle.std.specs.Prelude.{cond, ◌&&◌, List, ◌++◌, ℤ, Ok, Err}
 use Rattle.plane.specs.declared.bezpath.PathEl.{PathEl}
 use Rattle.plane.specs.declared.rect.Rect.{Rect}
 use Rattle.plane.specs.Paths.{Drawn}

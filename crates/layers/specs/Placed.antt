@@ -1,14 +1,14 @@
 -- A placing keeps the laws of windings where the shape below does. Assumes nothing.
-use Rattle.std.specs.Prelude.{◌≡◌, ℕ, ◌+◌, ◌≤◌, Bool, true, false, cond, not, ◌&&◌, T, ◌⊎◌, ℤ, pos, negsuc, ◌+ℤ◌, ◌-ℤ◌, ◌*ℤ◌, ◌≤ℤ◌, ◌≢◌, unsigned_abs, refl, Float}
+use Rattle.std.specs.Prelude.{◌≡◌, ℕ, ◌+◌, Bool, true, false, cond, ◌&&◌, T, ℤ, pos, negsuc, ◌-ℤ◌, ◌*ℤ◌, ◌≤ℤ◌, ◌≢◌, unsigned_abs, refl, Float}
 use Rattle.std.proofs.Common.{sym, ap, ◌∙◌, subst, inl, inr, arith, leb→le, lit≤}
-use Rattle.std.specs.Float.Ieee.{sub, le, of_int}
+use Rattle.std.specs.Float.Ieee.{sub, le}
 use Rattle.std.specs.Float.Ieee.Fits.{and_l, and_r}
 use Rattle.std.specs.Float.Ieee.Scale.{finite}
-use Rattle.std.specs.Float.{float_min, float_max, float_with_sign, binary64}
+use Rattle.std.specs.Float.{float_min, float_max, binary64}
 use Rattle.std.specs.Float.Order.{le_trans}
 use Rattle.std.specs.Bool.{passes}
 use Rattle.std.proofs.lemmas.Int.{ints}
-use Rattle.floats.specs.Value.{Val, In}
+use Rattle.floats.specs.Value.{In}
 use Rattle.floats.specs.Page.{up_to, in_field}
 use Rattle.floats.specs.Zeros.{Alike}
 use Rattle.floats.proofs.Alike.{zeros_agree}
@@ -18,15 +18,14 @@ use Rattle.floats.proofs.Tested.{up_to_whole}
 use Rattle.plane.specs.declared.affine.Affine.{Affine}
 use Rattle.plane.specs.declared.point.Point.{Point}
 use Rattle.plane.specs.declared.rect.Rect.{Rect}
-use Rattle.plane.specs.Affines.{image, image_box, blend}
+use Rattle.plane.specs.Affines.{image, image_box}
 use Rattle.plane.specs.Points.{GridPoint, FieldPoint, Same, FiniteBox, InBox}
 use Rattle.plane.specs.Rects.{finite_sides}
 use Rattle.plane.specs.Winding.{IsWinding}
-use Rattle.plane.specs.Equals.{alike_sym}
 use Rattle.layers.specs.Moves.{is_move, unmoved, read_as, sign, taken_back}
 use Rattle.layers.specs.Placings.{point_in_field, placed_wind, no_box, placed_box}
-use Rattle.layers.specs.Turns.{Turn, to_x, to_y, hind_x, hind_y}
-use Rattle.layers.specs.Whole.{Whole, page, whole_of, unmoved_move, resized}
+use Rattle.layers.specs.Turns.{to_x, to_y, hind_x, hind_y}
+use Rattle.layers.specs.Whole.{page, whole_of, unmoved_move, resized}
 use Rattle.layers.specs.Products.{Spot, back_spot}
 use Rattle.layers.specs.Composed.{forward_back}
 use Rattle.layers.specs.Boxes.{Number, finite_box, Numbered, least_number, most_number, Around, around}

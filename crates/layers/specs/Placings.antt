@@ -1,9 +1,8 @@
 -- Placings: what a shape means once a move has placed it. Assumes nothing.
-use Rattle.std.specs.Prelude.{Bool, cond, ◌&&◌, List, map, ℤ, pos, ◌*ℤ◌, Ok, Err}
+use Rattle.std.specs.Prelude.{Bool, cond, ◌&&◌, map, ℤ, pos, ◌*ℤ◌, Ok, Err}
 use Rattle.std.specs.Float.{nan}
 use Rattle.floats.specs.Page.{in_field}
 use Rattle.plane.specs.declared.affine.Affine.{Affine}
-use Rattle.plane.specs.declared.bezpath.PathEl.{PathEl}
 use Rattle.plane.specs.declared.point.Point.{Point}
 use Rattle.plane.specs.declared.rect.Rect.{Rect}
 use Rattle.plane.specs.Affines.{image_el, image_box}

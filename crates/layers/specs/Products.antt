@@ -1,24 +1,19 @@
 -- Products of moves, and points carried forward and taken back: exact in whole numbers, and equal but for zero signs where the whole numbers are. Assumes nothing.
-use Rattle.std.specs.Prelude.{◌≡◌, ℕ, ◌+◌, ◌*◌, ◌^◌, ◌<◌, ◌≤◌, Bool, true, false, cond, T, List, [], ◌∷◌, ℤ, pos, negsuc, ◌+ℤ◌, ◌-ℤ◌, ◌*ℤ◌, nat_lt, refl, Float}
-use Rattle.std.proofs.Common.{sym, ap, ◌∙◌, subst, arith, lit≤, pow_pos}
-use Rattle.std.specs.Int.Signed.{lt_z}
+use Rattle.std.specs.Prelude.{◌≡◌, ℕ, ◌+◌, ◌^◌, T, ℤ, ◌+ℤ◌, ◌-ℤ◌, nat_lt, Float}
+use Rattle.std.proofs.Common.{sym, subst, pow_pos}
 use Rattle.std.specs.Float.{binary64}
-use Rattle.std.specs.Float.Ieee.{add, sub, mul, lt, fits}
-use Rattle.std.proofs.lemmas.Int.{ints}
-use Rattle.floats.specs.Value.{Is, Val, In, Rounds}
+use Rattle.floats.specs.Value.{In, Rounds}
 use Rattle.floats.specs.Zeros.{Alike}
 use Rattle.floats.proofs.Alike.{rounds_alike}
-use Rattle.floats.proofs.Monotone.{rounds_self}
 use Rattle.floats.proofs.Rounded.{rounds_add}
-use Rattle.floats.proofs.Bounded.{in_add, in_sub, in_lt}
-use Rattle.floats.proofs.Ring.{Expr, num, ◌⊕◌, ◌⊖◌, ◌⊗◌, ◌⊜◌, ring}
+use Rattle.floats.proofs.Bounded.{in_add, in_sub}
 use Rattle.plane.specs.declared.affine.Affine.{Affine}
 use Rattle.plane.specs.declared.point.Point.{Point}
-use Rattle.plane.specs.Affines.{nought, blend, product, image, det}
-use Rattle.plane.specs.Points.{GridPoint, FieldPoint, Same}
-use Rattle.layers.specs.Moves.{is_move, sign, taken_back, SameMap, Composes}
-use Rattle.layers.specs.Turns.{Turn, t₀, t₁, t₂, t₃, t₄, t₅, t₆, t₇, Row, of_x, of_y, to_x, to_y, ta, tb, tc, td, after, after_a, after_b, after_c, after_d, after_sign, turn_sign, fore_x, fore_y, hind_x, hind_y, fore_x_size, fore_y_size, hind_x_size, hind_y_size, back_x, back_y, fore_hind_x, fore_hind_y, unit_size_x, unit_size_y}
-use Rattle.layers.specs.Whole.{Turned, Whole, page, whole_of, resized, unit_mul, blend_in, blend_rounds, nought_in}
+use Rattle.plane.specs.Affines.{product, image}
+use Rattle.plane.specs.Points.{Same}
+use Rattle.layers.specs.Moves.{taken_back}
+use Rattle.layers.specs.Turns.{Turn, to_x, to_y, ta, tb, tc, td, after, after_a, after_b, after_c, after_d, fore_x, fore_y, hind_x, hind_y, fore_x_size, fore_y_size, hind_x_size, hind_y_size, unit_size_x, unit_size_y}
+use Rattle.layers.specs.Whole.{Turned, Whole, resized, blend_in, blend_rounds}
 
 -- ---- one value, two results
 pub alike_at : {x y : Float} {k l : ℤ} (i : ℕ) → Rounds binary64 x k (2 ^ i) → Rounds binary64 y l (2 ^ i) → k ≡ l → Alike x y

@@ -1,6 +1,6 @@
 -- A row of a turn with an offset keeps or turns round the order of the coordinate that it takes, for finite floats of any size. Assumes nothing.
-use Rattle.std.specs.Prelude.{◌≡◌, ℕ, ◌*◌, ◌<◌, Bool, true, false, not, T, ◌⊎◌, ℤ, pos, negsuc, ◌*ℤ◌, ◌≤ℤ◌, refl, Float}
-use Rattle.std.proofs.Common.{sym, ap, ◌∙◌, subst, inl, inr, mul-pos, arith}
+use Rattle.std.specs.Prelude.{◌≡◌, ℕ, ◌*◌, ◌<◌, T, ◌⊎◌, ℤ, pos, negsuc, ◌*ℤ◌, ◌≤ℤ◌, refl, Float}
+use Rattle.std.proofs.Common.{ap, subst, inl, inr, mul-pos, arith}
 use Rattle.std.specs.Float.{nan, inf, fin, binary64}
 use Rattle.std.specs.Float.Ieee.{add, mul, le, is_nan}
 use Rattle.std.specs.Float.Ieee.Scale.{finite}

@@ -1,11 +1,11 @@
 -- The eight turns in whole numbers: their rows, their products, their signs, and that what they carry forward they take back. Assumes nothing.
-use Rattle.std.specs.Prelude.{◌≡◌, ℕ, ◌≤◌, Bool, true, false, ◌&&◌, T, List, [], ◌∷◌, ℤ, pos, negsuc, ◌+ℤ◌, ◌-ℤ◌, ◌*ℤ◌, unsigned_abs, refl}
-use Rattle.std.proofs.Common.{sym, ap, ◌∙◌, subst, arith, lit≤}
+use Rattle.std.specs.Prelude.{◌≡◌, ℕ, ◌≤◌, Bool, ◌&&◌, T, [], ◌∷◌, ℤ, pos, negsuc, ◌+ℤ◌, ◌-ℤ◌, ◌*ℤ◌, unsigned_abs}
+use Rattle.std.proofs.Common.{sym, ◌∙◌, subst, arith, lit≤}
 use Rattle.std.specs.Float.Ieee.Fits.{and_l, and_r}
 use Rattle.std.proofs.lemmas.Int.{ints}
 use Rattle.floats.proofs.Compared.{eqZ}
 use Rattle.floats.proofs.Stated.{one_numerator}
-use Rattle.floats.proofs.Ring.{Expr, num, ◌⊕◌, ◌⊖◌, ◌⊗◌, ◌⊜◌, ring}
+use Rattle.floats.proofs.Ring.{num, ◌⊕◌, ◌⊖◌, ◌⊗◌, ◌⊜◌, ring}
 
 -- ---- a row takes one coordinate, or its negative
 pub data Row : Type 0 where

@@ -1,20 +1,19 @@
 -- Moves in whole numbers: a move is a turn with an offset in units of 1/256, and products, points carried forward and points taken back are exact. Assumes nothing.
-use Rattle.std.specs.Prelude.{◌≡◌, ℕ, ◌+◌, ◌*◌, ◌^◌, ◌<◌, ◌≤◌, Bool, true, false, ◌&&◌, ◌||◌, T, ◌⊎◌, ℤ, pos, negsuc, ◌+ℤ◌, ◌-ℤ◌, ◌*ℤ◌, nat_le, nat_lt, unsigned_abs, refl, Float}
-use Rattle.std.proofs.Common.{sym, ap, ◌∙◌, subst, inl, inr, le_refl, arith, leb→le, le→leb, lit≤, pow_pos}
+use Rattle.std.specs.Prelude.{◌≡◌, ℕ, ◌+◌, ◌*◌, ◌^◌, ◌≤◌, Bool, true, false, ◌&&◌, ◌||◌, T, ◌⊎◌, ℤ, pos, negsuc, ◌+ℤ◌, ◌*ℤ◌, nat_le, nat_lt, unsigned_abs, refl, Float}
+use Rattle.std.proofs.Common.{sym, subst, inl, inr, le_refl, arith, leb→le, lit≤, pow_pos}
 use Rattle.std.specs.Float.{binary64}
-use Rattle.std.specs.Float.Ieee.{of_bits, add, sub, mul, eq}
+use Rattle.std.specs.Float.Ieee.{of_bits, mul, eq}
 use Rattle.std.specs.Float.Ieee.Fits.{and_l, and_r, and_i}
-use Rattle.std.proofs.lemmas.Int.{ints}
-use Rattle.floats.specs.Value.{Is, Val, In, Rounds}
-use Rattle.floats.specs.Page.{on_grid, on_page, up_to}
+use Rattle.floats.specs.Value.{In, Rounds}
+use Rattle.floats.specs.Page.{on_grid, on_page}
 use Rattle.floats.proofs.Rounded.{rounds_add}
 use Rattle.floats.proofs.Compared.{eqZ}
 use Rattle.floats.proofs.Bounded.{in_add, in_mul, in_neg, in_eq}
 use Rattle.floats.proofs.Tested.{one_test, on_grid_only, on_grid_every, up_to_whole, equal_is}
 use Rattle.plane.specs.declared.affine.Affine.{Affine}
-use Rattle.plane.specs.Affines.{nought, one, blend, product, det}
+use Rattle.plane.specs.Affines.{nought, one, blend}
 use Rattle.layers.specs.Moves.{minus_one, turns_by, is_turn, unit, units_and_zeros, unmoved, grid_offset, page_offset, is_move}
-use Rattle.layers.specs.Turns.{Row, x⁺, x⁻, y⁺, y⁻, of_x, of_y, Turn, t₀, t₁, t₂, t₃, t₄, t₅, t₆, t₇, to_x, to_y, ta, tb, tc, td}
+use Rattle.layers.specs.Turns.{Turn, t₀, t₁, t₂, t₃, t₄, t₅, t₆, t₇, ta, tb, tc, td}
 
 -- ---- the constants
 pub one_in : In one (pos 1) 0 1

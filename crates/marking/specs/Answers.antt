@@ -1,5 +1,5 @@
 -- The text of an answer. Assumes nothing.
-use Rattle.std.specs.Prelude.{ℕ, Bool, cond, List, ◌++◌, Some, None, Ok, Err, codes, decimal, Option}
+use Rattle.std.specs.Prelude.{ℕ, cond, List, ◌++◌, Some, None, Ok, Err, codes, decimal, Option}
 use Rattle.exam.specs.Refusals.{number_of, name_of}
 use Rattle.marking.specs.declared.paper.Answer.{Answer}
 use Rattle.marking.specs.declared.paper.Answer.TheVariants.{Position, Point}

@@ -1,5 +1,5 @@
 -- The laws of a mark: each is that of the shape. Assumes nothing.
-use Rattle.std.specs.Prelude.{◌≡◌, ℤ, pos, ◌≢◌, Float}
+use Rattle.std.specs.Prelude.{◌≡◌, pos, ◌≢◌, Float}
 use Rattle.plane.specs.declared.point.Point.{Point}
 use Rattle.plane.specs.Paths.{WellDrawn}
 use Rattle.plane.specs.Points.{FieldPoint, Same, FiniteBox, InBox}

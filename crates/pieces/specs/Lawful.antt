@@ -1,9 +1,9 @@
 -- The laws of a placed mark and of one over another: those of the layers, over those of the marks. Assumes nothing.
-use Rattle.std.specs.Prelude.{◌≡◌, ℤ, pos, ◌≢◌, Float}
+use Rattle.std.specs.Prelude.{◌≡◌, pos, ◌≢◌, Float}
 use Rattle.plane.specs.declared.point.Point.{Point}
 use Rattle.plane.specs.Paths.{WellDrawn}
 use Rattle.plane.specs.Points.{FieldPoint, Same, FiniteBox, InBox}
-use Rattle.plane.specs.Winding.{IsWinding, nonzero}
+use Rattle.plane.specs.Winding.{IsWinding}
 use Rattle.marks.specs.declared.mark.Mark.{Mark}
 use Rattle.marks.specs.Marks as Marks
 use Rattle.marks.specs.Lawful.{mark_small, mark_same, mark_boxed, mark_formed}

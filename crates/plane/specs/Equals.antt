@@ -1,8 +1,6 @@
 -- What equal points have in common: vectors to them, and the products of such vectors, are equal but for zero signs. Assumes nothing.
-use Rattle.std.specs.Prelude.{◌≡◌, ◌⊎◌, refl, Float}
+use Rattle.std.specs.Prelude.{refl, Float}
 use Rattle.std.proofs.Common.{sym, inl, inr}
-use Rattle.std.specs.Float.{binary64}
-use Rattle.std.specs.Float.Ieee.{add, sub, mul}
 use Rattle.floats.specs.Zeros.{Alike}
 use Rattle.floats.proofs.Alike.{zeros_agree}
 use Rattle.plane.specs.declared.point.Point.{Point}

@@ -1,6 +1,6 @@
 -- What keeps a path well formed, and where a fixed path ends. Assumes nothing.
 use Rattle.std.proofs.Common.{sym, subst}
-use Rattle.std.specs.Prelude.{ℕ, ◌≤◌, Bool, true, false, cond, List, length, drop, None, Ok, Err, refl, Float}
+use Rattle.std.specs.Prelude.{ℕ, ◌≤◌, Bool, true, false, cond, List, length, drop, None, Err, refl, Float}
 use Rattle.std.proofs.lemmas.List.{drop_all}
 use Rattle.plane.specs.declared.bezpath.PathEl.{PathEl}
 use Rattle.plane.specs.declared.fault.ShapeFault.TheVariants.{Tolerance, NotFinite}

@@ -1,9 +1,8 @@
 -- The winding of a rectangle keeps the laws of windings, and is the whole-number rule on the grid. Assumes nothing.
-use Rattle.std.specs.Prelude.{◌≡◌, Bool, true, false, cond, not, ◌&&◌, T, ◌⊎◌, ℤ, pos, negsuc, ◌-ℤ◌, ◌*ℤ◌, ◌≤ℤ◌, ◌<ℤ◌, Ok, ◌≢◌, int_le, int_lt, refl, Float}
+use Rattle.std.specs.Prelude.{◌≡◌, Bool, true, false, cond, not, ◌&&◌, T, ℤ, pos, negsuc, ◌-ℤ◌, ◌*ℤ◌, Ok, ◌≢◌, int_le, int_lt, refl, Float}
 use Rattle.std.proofs.Common.{sym, ap, ◌∙◌, subst, inl, inr, arith}
 use Rattle.std.specs.Float.Ieee.{lt, le}
 use Rattle.std.specs.Float.Ieee.Fits.{and_l, and_r}
-use Rattle.std.specs.Float.{float_min, float_max}
 use Rattle.std.specs.Int.{int_min, int_max}
 use Rattle.std.specs.Float.Order.{le_of_lt}
 use Rattle.std.specs.Bool.{passes}
@@ -14,9 +13,9 @@ use Rattle.floats.proofs.Alike.{zeros_agree}
 use Rattle.floats.proofs.Bounded.{in_sub, in_mul, in_lt, in_le, in_min, in_max}
 use Rattle.plane.specs.declared.point.Point.{Point}
 use Rattle.plane.specs.declared.rect.Rect.{Rect}
-use Rattle.plane.specs.Points.{GridPoint, FieldPoint, Same, FiniteBox, InBox}
-use Rattle.plane.specs.Winding.{Gives, IsWinding, Lawful}
-use Rattle.plane.specs.Rects.{rect, area_of, box, half_open, unlike, wind, GridRect, Sides, Between, turn, RuleOfRect}
+use Rattle.plane.specs.Points.{GridPoint, Same, InBox}
+use Rattle.plane.specs.Winding.{IsWinding, Lawful}
+use Rattle.plane.specs.Rects.{area_of, box, half_open, unlike, wind, GridRect, Sides, Between, turn, RuleOfRect}
 use Rattle.plane.specs.Equals.{alike_sym}
 use Rattle.plane.specs.Formed.{checked_well}
 use Rattle.plane.specs.Paths.{WellDrawn}

@@ -1,5 +1,5 @@
 -- Rectangles: their box and winding as computed, for all floats; and the rule on the grid, over whole numbers. Assumes nothing.
-use Rattle.std.specs.Prelude.{◌≡◌, Bool, true, false, cond, not, ◌&&◌, List, [], ◌∷◌, drop, ℤ, pos, negsuc, ◌≤ℤ◌, ◌<ℤ◌, Ok, from_bits, int_lt, Float}
+use Rattle.std.specs.Prelude.{Bool, false, cond, not, ◌&&◌, List, [], ◌∷◌, drop, ℤ, pos, negsuc, ◌≤ℤ◌, ◌<ℤ◌, Ok, from_bits, int_lt, Float}
 use Rattle.std.specs.Bool.{beq}
 use Rattle.std.specs.Float.Ieee.{add, sub, mul, lt, le}
 use Rattle.std.specs.Float.{float_with_sign, float_is_finite, float_min, float_max, binary64}

@@ -1,33 +1,31 @@
 -- The winding of a circle keeps the laws of windings, and is the whole-number rule on the grid. Assumes nothing.
-use Rattle.std.specs.Prelude.{◌≡◌, ℕ, zero, suc, ◌+◌, ◌-◌, ◌≤◌, Bool, true, false, cond, not, ◌&&◌, T, ◌⊎◌, ℤ, pos, ◌+ℤ◌, ◌-ℤ◌, ◌*ℤ◌, ◌<ℤ◌, Some, None, Ok, Err, ◌≢◌, int_lt, unsigned_abs, refl, Float}
+use Rattle.std.specs.Prelude.{◌≡◌, ℕ, zero, suc, ◌+◌, ◌-◌, ◌≤◌, Bool, true, false, cond, ◌&&◌, T, ℤ, pos, ◌+ℤ◌, ◌-ℤ◌, ◌*ℤ◌, ◌<ℤ◌, Some, None, Ok, Err, ◌≢◌, int_lt, unsigned_abs, refl, Float}
 use Rattle.std.proofs.Common.{sym, ap, ◌∙◌, subst, inl, inr, arith, lit<, lit≤, lt_of_le_of_lt}
 use Rattle.std.proofs.Math.Dec.{not_T}
 use Rattle.std.specs.Float.Ieee.Fits.{and_l, and_r}
-use Rattle.floats.proofs.Canonical.{Held, canonical, equal_sub, equal_le, le_equal}
+use Rattle.floats.proofs.Canonical.{canonical, equal_sub, equal_le, le_equal}
 use Rattle.plane.specs.declared.fault.ShapeFault.TheVariants.{TooFine}
 use Rattle.plane.specs.declared.bezpath.PathEl.{PathEl}
 use Rattle.plane.specs.Paths.{Steps, formed, WellDrawn}
 use Rattle.plane.specs.Formed.{checked_well}
-use Rattle.std.specs.Float.Ieee.{add, sub, mul, neg, lt, le, fits, is_nan}
+use Rattle.std.specs.Float.Ieee.{add, sub, mul, neg, lt, fits}
 use Rattle.std.specs.Float.Ieee.Scale.{finite}
-use Rattle.std.specs.Float.{float_zero as zeroF, float_with_sign, nan, inf, fin, binary64}
+use Rattle.std.specs.Float.{float_with_sign, nan, inf, fin, binary64}
 use Rattle.std.specs.Float.Order.{le_of_not-lt}
 use Rattle.std.specs.Bool.{passes}
-use Rattle.floats.specs.Zeros.{Alike}
 use Rattle.floats.proofs.Alike.{zeros_agree}
 use Rattle.floats.proofs.Bounded.{in_add, in_sub, in_mul, in_abs, in_lt}
 use Rattle.floats.proofs.Sizes.{is_finite, abs_from_zero}
 use Rattle.floats.proofs.Distances.{beyond_x, beyond_y}
 use Rattle.floats.proofs.Sums.{sub_number, add_number, finite_number}
 use Rattle.plane.specs.declared.point.Point.{Point}
-use Rattle.plane.specs.declared.rect.Rect.{Rect}
 use Rattle.plane.specs.Points.{GridPoint, FieldPoint, Same, FiniteBox, InBox}
 use Rattle.plane.specs.Rects.{Sides}
 use Rattle.plane.specs.Vectors.{point, from_to, dot}
 use Rattle.plane.specs.Winding.{Gives, IsWinding, Lawful}
 use Rattle.plane.specs.Equals.{SameVec, to_same, dot_same, alike_refl}
 use Rattle.shapes.specs.declared.circle.Circle.{Circle}
-use Rattle.shapes.specs.Circles.{circle, around, box, nearer, wind, GridCircle, RuleOfCircle, curve, curves, step_of, path, arm_length, curve_count, fine_enough, all_finite, drawn}
+use Rattle.shapes.specs.Circles.{box, nearer, wind, GridCircle, RuleOfCircle, curve, curves, step_of, path, arm_length, curve_count, fine_enough, all_finite, drawn}
 
 -- ---- the laws
 small : (t : Bool) → IsWinding (cond t (pos 1) (pos 0))

@@ -1,12 +1,10 @@
 -- The winding of a triangle keeps the laws of windings, and is the whole-number rule on the grid. Assumes nothing.
-use Rattle.std.specs.Prelude.{◌≡◌, ℕ, Bool, true, false, cond, not, ◌&&◌, T, ◌⊎◌, ℤ, pos, negsuc, ◌-ℤ◌, ◌*ℤ◌, Ok, ◌≢◌, refl, Float}
-use Rattle.std.proofs.Common.{sym, ap, ◌∙◌, subst, inl, inr, lit≤, arith}
-use Rattle.std.specs.Int.Signed.{lt_z, le_z}
+use Rattle.std.specs.Prelude.{◌≡◌, Bool, true, false, cond, ◌&&◌, T, ℤ, pos, negsuc, ◌*ℤ◌, Ok, ◌≢◌, refl, Float}
+use Rattle.std.proofs.Common.{sym, ◌∙◌, subst, inl, inr, lit≤, arith}
 use Rattle.std.specs.Float.{binary64}
-use Rattle.std.specs.Float.Ieee.{of_bits, sub, mul, lt, le, eq}
+use Rattle.std.specs.Float.Ieee.{of_bits, mul, lt, le, eq}
 use Rattle.std.specs.Float.Ieee.Fits.{and_l, and_r}
 use Rattle.std.specs.Int.{int_min, int_max}
-use Rattle.std.specs.Bool.{passes}
 use Rattle.std.proofs.lemmas.Int.{ints}
 use Rattle.floats.specs.Value.{In, Val}
 use Rattle.floats.specs.Zeros.{Alike}
@@ -17,7 +15,7 @@ use Rattle.plane.specs.declared.point.Point.{Point}
 use Rattle.plane.specs.declared.rect.Rect.{Rect}
 use Rattle.plane.specs.Points.{GridPoint, Same, InBox}
 use Rattle.plane.specs.Rects.{Sides}
-use Rattle.plane.specs.Vectors.{from_to, cross}
+use Rattle.plane.specs.Vectors.{from_to}
 use Rattle.plane.specs.Paths.{WellDrawn}
 use Rattle.plane.specs.Formed.{checked_well}
 use Rattle.plane.specs.Winding.{IsWinding, Lawful}

@@ -1,29 +1,27 @@
 -- What rows answer depends on the mark and the product alone: rows of the book, and the entries that stand for them, answer the same. Assumes nothing.
-use Rattle.std.proofs.Common.{◌≡◌, ℕ, zero, suc, ◌+◌, ◌-◌, ◌≤◌, Bool, true, false, cond, ◌&&◌, T, ltb, List, [], ◌∷◌, ◌++◌, map, length, ℤ, pos, ◌+ℤ◌, ◌*ℤ◌, nat_abs, Some, None, Ok, Err, Option, Result, sym, refl, ap, ◌∙◌, subst, arith, lit≤, leb→le}
+use Rattle.std.proofs.Common.{◌≡◌, ℕ, zero, suc, ◌+◌, ◌-◌, ◌≤◌, Bool, true, false, cond, ◌&&◌, T, ltb, List, [], ◌∷◌, map, length, ℤ, ◌+ℤ◌, ◌*ℤ◌, nat_abs, Some, None, Ok, Err, sym, refl, ap, ◌∙◌, subst, arith, lit≤, leb→le}
 use lib.Ieee.{Float}
 use lib.Ieee.Fits.{and_l, and_r}
 use Rattle.std.specs.Bool.{passes}
 use Rattle.floats.specs.Page.{on_grid, on_page}
 use Rattle.floats.specs.Value.{In}
 use Rattle.floats.proofs.Tested.{on_grid_only, up_to_whole}
-use Rattle.floats.proofs.Ring.{Expr, num, ◌⊗◌, ◌⊜◌, ring}
 use Rattle.plane.specs.declared.affine.Affine.{Affine}
 use Rattle.plane.specs.declared.point.Point.{Point}
 use Rattle.plane.specs.declared.rect.Rect.{Rect}
 use Rattle.plane.specs.Affines.{product, image_box}
-use Rattle.plane.specs.Paths.{Drawn, tolerable}
+use Rattle.plane.specs.Paths.{tolerable}
 use Rattle.plane.specs.Points.{Same}
 use Rattle.plane.specs.Rects.{joined, finite_sides}
 use Rattle.plane.specs.Winding.{nonzero}
-use Rattle.layers.specs.Moves.{is_move, page_offset, read_as, sign, taken_back}
+use Rattle.layers.specs.Moves.{page_offset, read_as, sign, taken_back}
 use Rattle.layers.specs.Placings.{placed_drawn}
 use Rattle.layers.specs.Placed.{read_move}
 use Rattle.layers.specs.Products.{Spot}
 use Rattle.layers.specs.Whole.{page}
-use Rattle.sheets.specs.declared.fault.SheetFault.{SheetFault}
 use Rattle.sheets.specs.declared.fault.SheetFault.TheVariants.{Tolerance, NotFinite, Full, NoMark, OffGrid, OffPage}
 use Rattle.sheets.specs.declared.sheet.Entry.{Entry}
-use Rattle.sheets.specs.Book.{Marks, Row, row, usable, product_of, through, signs, stays, shift_answer, leaving, by_lowest, shift_all_answer, lift_answer, put_answer, at_page_point, gives, total, highest, above, moved_box, union_from, union_of, row_drawn, then_drawn, drawn_from, all_drawn, Inked}
+use Rattle.sheets.specs.Book.{Marks, Row, row, usable, product_of, stays, shift_answer, leaving, by_lowest, shift_all_answer, lift_answer, put_answer, at_page_point, gives, total, highest, above, moved_box, union_from, union_of, row_drawn, then_drawn, drawn_from, all_drawn, Inked}
 use Rattle.sheets.specs.Tables.{row_of, Stands, AllStand, Granted}
 use Rattle.sheets.proofs.Through.{through_product, signs_product}
 

@@ -1,5 +1,5 @@
 -- One order more in a list of orders. Assumes nothing.
-use Rattle.std.proofs.Common.{◌≡◌, ℕ, ◌+◌, ◌<◌, ◌≤◌, min, List, [], ◌∷◌, ◌++◌, length, get_or, take, drop, set, sym, refl, ap, ◌∙◌, subst, arith, drop-set-lt}
+use Rattle.std.proofs.Common.{◌≡◌, ℕ, ◌+◌, ◌<◌, min, List, [], ◌∷◌, ◌++◌, length, get_or, take, drop, set, sym, refl, ap, ◌∙◌, subst, arith, drop-set-lt}
 use Rattle.plane.specs.declared.bezpath.PathEl.{PathEl}
 use Rattle.std.proofs.lemmas.List.{take_more, take_more_set, drop-drop}
 use Rattle.sheets.specs.declared.order.Order.{Order}
@@ -7,7 +7,7 @@ use Rattle.sheets.specs.declared.order.Answer.{Answer}
 use Rattle.sheets.specs.declared.sheet.Entry.{Entry}
 use Rattle.sheets.specs.declared.sheet.Sheet.{Sheet}
 use Rattle.sheets.specs.Book.{Marks, Row, usable}
-use Rattle.sheets.specs.Tables.{StandsFor, AllStand, counting, held}
+use Rattle.sheets.specs.Tables.{StandsFor, AllStand, counting}
 use Rattle.sheets.specs.Runs.{reply, after, inked, replies, ends, page, sheet_after, table_after, left, FollowedByBook, RunByBook, BookOf}
 use Rattle.sheets.proofs.Sounds.{LawsOf, keep_ends, sound}
 

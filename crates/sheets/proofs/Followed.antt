@@ -1,5 +1,5 @@
 -- What each call promises is what its order asks of the book. Assumes nothing.
-use Rattle.std.proofs.Common.{◌≡◌, ℕ, ◌+◌, ◌-◌, List, [], length, ℤ, Option, Result, sym, refl, ap, ◌∙◌, subst}
+use Rattle.std.proofs.Common.{◌≡◌, ℕ, ◌+◌, ◌-◌, List, length, ℤ, Option, Result, sym, refl, ap, ◌∙◌, subst}
 use lib.Ieee.{Float}
 use Rattle.plane.specs.declared.bezpath.PathEl.{PathEl}
 use Rattle.plane.specs.declared.point.Point.{Point}
@@ -12,7 +12,7 @@ use Rattle.sheets.specs.declared.order.Answer.{Answer}
 use Rattle.sheets.specs.declared.order.Answer.TheVariants as said
 use Rattle.sheets.specs.declared.sheet.Entry.{Entry}
 use Rattle.sheets.specs.declared.sheet.Sheet.{Sheet}
-use Rattle.sheets.specs.Book.{Marks, Row, put_answer, shift_answer, shift_all_answer, lift_answer, at_page_point, total, highest, union_of, all_drawn, draw_answer, draw_buffer}
+use Rattle.sheets.specs.Book.{Marks, put_answer, shift_answer, shift_all_answer, lift_answer, at_page_point, total, highest, union_of}
 use Rattle.sheets.specs.Tables.{counting, held, rows, where_granted, put_table, moved_entry, alter, shift_all_table, lift_table, PutByBook, ShiftByBook, ShiftAllByBook, LiftByBook, AnsweredByBook, DrawnByBook}
 use Rattle.sheets.specs.Runs.{as_position, as_marks, as_winding, as_top, as_elements, sheet_after, table_after, FollowedByBook}
 

@@ -1,5 +1,5 @@
 -- What a call leaves stands for the rows that the book then has. Assumes nothing.
-use Rattle.std.proofs.Common.{◌≡◌, ℕ, zero, suc, ◌+◌, Bool, true, false, cond, T, List, [], ◌∷◌, ◌++◌, map, Some, None, Option, sym, refl, ap, ◌∙◌, subst, arith}
+use Rattle.std.proofs.Common.{◌≡◌, ℕ, zero, suc, ◌+◌, Bool, true, false, cond, T, List, [], ◌∷◌, ◌++◌, map, Some, None, sym, refl, ap, ◌∙◌, subst, arith}
 use Rattle.std.specs.Bool.{passes}
 use Rattle.plane.specs.declared.affine.Affine.{Affine}
 use Rattle.plane.specs.Affines.{product}
@@ -7,7 +7,7 @@ use Rattle.layers.specs.Moves.{is_move, page_offset, unmoved, read_as}
 use Rattle.layers.specs.Composed.{product_move}
 use Rattle.layers.specs.Placed.{read_move}
 use Rattle.sheets.specs.declared.sheet.Entry.{Entry}
-use Rattle.sheets.specs.Book.{Row, row, joined_after, product_of, moved_on, stays, shift_rows, leaving, shift_all_rows, without}
+use Rattle.sheets.specs.Book.{Row, row, joined_after, product_of, moved_on, stays, shift_rows, leaving, without}
 use Rattle.sheets.specs.Tables.{entry, moved_entry, row_of, GrantedAfter, Granted, Stands, AllStand, alter}
 
 -- ---- one move more

@@ -1,5 +1,5 @@
 -- A lift: its answer over the rows, and what it leaves. Assumes nothing.
-use Rattle.std.proofs.Common.{◌≡◌, ℕ, zero, suc, ◌+◌, ◌-◌, ◌<◌, ◌≤◌, min, Bool, true, false, cond, T, ltb, List, [], ◌∷◌, ◌++◌, map, length, get_or, take, drop, set, Ok, Err, Result, sym, refl, ap, ◌∙◌, subst, add-one, arith, ltb→lt, nltb→le, length-append, length-drop, take-append-drop, length-take, drop-set-lt}
+use Rattle.std.proofs.Common.{◌≡◌, ℕ, zero, suc, ◌+◌, ◌-◌, ◌<◌, ◌≤◌, min, Bool, true, false, cond, ltb, List, [], ◌∷◌, ◌++◌, length, get_or, take, drop, set, Ok, Err, Result, sym, refl, ap, ◌∙◌, subst, add-one, arith, ltb→lt, nltb→le, length-append, length-drop, take-append-drop, drop-set-lt}
 use lib.Seq.{take-append_seam}
 use Rattle.std.specs.Bool.{passes, fails}
 use Rattle.std.proofs.lemmas.List.{take_more, take_more_set, drop-drop}
@@ -8,8 +8,8 @@ use Rattle.sheets.specs.declared.fault.SheetFault.{SheetFault}
 use Rattle.sheets.specs.declared.fault.SheetFault.TheVariants.{NoMark}
 use Rattle.sheets.specs.declared.sheet.Entry.{Entry}
 use Rattle.sheets.specs.declared.sheet.Sheet.{Sheet}
-use Rattle.sheets.specs.Book.{Row, usable, without, lift_answer, lift_rows}
-use Rattle.sheets.specs.Tables.{counting, held, used, rows, row_of, StandsFor, AllStand, where_granted, lift_table, LiftByBook}
+use Rattle.sheets.specs.Book.{usable, without, lift_answer, lift_rows}
+use Rattle.sheets.specs.Tables.{counting, held, used, rows, StandsFor, AllStand, where_granted, lift_table, LiftByBook}
 use Rattle.sheets.proofs.Agree.{same_count, lift_agree}
 use Rattle.sheets.proofs.Counts.{used_count, rows_count}
 use Rattle.sheets.proofs.Kept.{without_stand}

@@ -1,5 +1,5 @@
 -- A put: its answer over the rows, and what it leaves. Assumes nothing.
-use Rattle.std.proofs.Common.{◌≡◌, ℕ, ◌+◌, ◌<◌, ◌≤◌, min, Bool, true, false, cond, T, ltb, List, [], ◌∷◌, ◌++◌, map, length, take, set, Ok, Err, Result, sym, refl, ap, ◌∙◌, subst, arith, ltb→lt, length-set, ltb-true}
+use Rattle.std.proofs.Common.{◌≡◌, ℕ, ◌+◌, ◌<◌, ◌≤◌, min, Bool, true, false, cond, T, ltb, List, [], ◌∷◌, ◌++◌, length, take, Ok, Err, Result, sym, refl, ap, ◌∙◌, subst, arith, ltb→lt, length-set}
 use Rattle.std.specs.Bool.{passes}
 use Rattle.std.proofs.lemmas.List.{take_more_set}
 use Rattle.std.proofs.lemmas.Bool.{cond_below, cond_above}
@@ -10,9 +10,9 @@ use Rattle.sheets.specs.declared.fault.SheetFault.{SheetFault}
 use Rattle.sheets.specs.declared.fault.SheetFault.TheVariants.{NotFinite, Full}
 use Rattle.sheets.specs.declared.sheet.Entry.{Entry}
 use Rattle.sheets.specs.declared.sheet.Sheet.{Sheet}
-use Rattle.sheets.specs.Book.{Marks, Row, row, usable, put_answer, put_rows}
-use Rattle.sheets.specs.Tables.{entry, counting, held, used, rows, row_of, StandsFor, AllStand, where_granted, put_table, PutByBook}
-use Rattle.sheets.proofs.Counts.{used_count, rows_count}
+use Rattle.sheets.specs.Book.{Marks, row, usable, put_answer, put_rows}
+use Rattle.sheets.specs.Tables.{entry, counting, held, used, rows, StandsFor, AllStand, where_granted, put_table, PutByBook}
+use Rattle.sheets.proofs.Counts.{rows_count}
 use Rattle.sheets.proofs.Agree.{same_count, put_agree}
 use Rattle.sheets.proofs.Kept.{put_stands, append_stand}
 

@@ -12,7 +12,7 @@ use Rattle.sheets.specs.declared.sheet.Sheet.{Sheet}
 use Rattle.sheets.specs.Book.{Row, usable, stays, moved_on, shift_answer, shift_rows, leaving, by_lowest, by_lowest_rows, shift_all_answer, shift_all_rows}
 use Rattle.sheets.specs.Tables.{held, used, rows, row_of, StandsFor, AllStand, where_granted, moved_entry, alter, shift_all_table, ShiftByBook, ShiftAllByBook}
 use Rattle.sheets.proofs.Agree.{shift_agree, shift_all_agree}
-use Rattle.sheets.proofs.Counts.{used_count, rows_count}
+use Rattle.sheets.proofs.Counts.{used_count}
 use Rattle.sheets.proofs.Kept.{shift_entry, shift_stand, all_stay}
 
 -- ---- one mark

@@ -1,33 +1,33 @@
 -- The rows of a book that began empty are sound: marks lie in the box, the uppermost is named, and drawings are made of the marks' paths. Assumes nothing.
-use Rattle.std.proofs.Common.{◌≡◌, ℕ, zero, suc, ◌+◌, ◌≤◌, Bool, true, false, cond, ◌&&◌, T, ltb, ◌⊎◌, List, [], ◌∷◌, ◌++◌, map, length, ℤ, pos, negsuc, ◌-ℤ◌, ◌*ℤ◌, nat_abs, Some, None, Ok, Err, Option, Result, sym, refl, ap, ◌∙◌, subst, inl, inr, append_assoc, append-nil, add-one, arith}
+use Rattle.std.proofs.Common.{◌≡◌, ℕ, zero, suc, ◌+◌, ◌≤◌, Bool, true, false, cond, T, ltb, ◌⊎◌, List, [], ◌∷◌, ◌++◌, map, length, ℤ, pos, negsuc, ◌-ℤ◌, nat_abs, Some, None, Ok, Err, Option, sym, refl, ap, ◌∙◌, subst, inl, inr, append_assoc, append-nil, add-one, arith}
 use lib.Ieee.{Float}
 use Rattle.std.specs.Bool.{passes}
 use Rattle.plane.specs.declared.affine.Affine.{Affine}
 use Rattle.plane.specs.declared.bezpath.PathEl.{PathEl}
 use Rattle.plane.specs.declared.point.Point.{Point}
 use Rattle.plane.specs.declared.rect.Rect.{Rect}
-use Rattle.plane.specs.Affines.{image, image_el, product}
-use Rattle.plane.specs.Paths.{formed, Formed, Drawn, WellDrawn, tolerable}
+use Rattle.plane.specs.Affines.{image_el}
+use Rattle.plane.specs.Paths.{Formed, Drawn, WellDrawn, tolerable}
 use Rattle.plane.specs.Points.{GridPoint, FieldPoint, Same, FiniteBox, InBox}
 use Rattle.plane.specs.Rects.{joined, finite_sides}
 use Rattle.plane.specs.Winding.{nonzero}
-use Rattle.layers.specs.Moves.{is_move, page_offset, taken_back}
+use Rattle.layers.specs.Moves.{is_move, taken_back}
 use Rattle.layers.specs.Placings.{placed_drawn}
 use Rattle.layers.specs.Turns.{hind_x, hind_y}
 use Rattle.layers.specs.Whole.{page, whole_of, resized}
-use Rattle.layers.specs.Products.{Spot, back_spot}
+use Rattle.layers.specs.Products.{back_spot}
 use Rattle.layers.specs.Composed.{forward_back}
-use Rattle.layers.specs.Boxes.{Number, Numbered, finite_box, in_first, in_second, joined_numbered}
+use Rattle.layers.specs.Boxes.{Numbered, finite_box, in_first, in_second, joined_numbered}
 use Rattle.layers.specs.Placed.{image_holds, image_numbered, factor}
 use Rattle.layers.specs.Formed.{moved_formed, both_formed}
 use Rattle.sheets.specs.declared.fault.SheetFault.{SheetFault}
 use Rattle.sheets.specs.declared.fault.SheetFault.TheVariants.{Tolerance, Path}
 use Rattle.sheets.specs.declared.order.Order.{Order}
 use Rattle.sheets.specs.declared.order.Order.TheVariants.{Put, Shift, ShiftAll, Lift, Winding, Top, BoundingBox, Draw}
-use Rattle.sheets.specs.Book.{Marks, Row, row, usable, joined_after, product_of, through, signs, gives, stays, moved_on, put_rows, shift_rows, leaving, by_lowest_rows, shift_all_rows, without, above, highest, moved_box, union_from, union_of, Inked, row_drawn, then_drawn, drawn_from, all_drawn}
+use Rattle.sheets.specs.Book.{Marks, Row, row, usable, joined_after, product_of, through, signs, gives, stays, moved_on, put_rows, shift_rows, leaving, by_lowest_rows, shift_all_rows, without, above, highest, moved_box, union_from, union_of, then_drawn, drawn_from, all_drawn}
 use Rattle.sheets.specs.Tables.{Granted}
 use Rattle.sheets.specs.Runs.{after, ends}
-use Rattle.sheets.specs.Sound.{OnThePage, Holds, HoldsNone, HighestAt, Uppermost, Pieces, Sound}
+use Rattle.sheets.specs.Sound.{Holds, HoldsNone, HighestAt, Uppermost, Pieces, Sound}
 use Rattle.sheets.proofs.Through.{through_product, joined_move}
 use Rattle.sheets.proofs.Agree.{PagePoint, page_point}
 use Rattle.sheets.proofs.Kept.{all_granted_more}

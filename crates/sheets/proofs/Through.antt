@@ -1,11 +1,11 @@
 -- A page point taken back through the moves of a row, one by one, comes where it comes through their product; and the signs multiply. Assumes nothing.
-use Rattle.std.proofs.Common.{◌≡◌, ℕ, ◌+◌, ◌≤◌, T, List, [], ◌∷◌, ℤ, pos, ◌+ℤ◌, ◌-ℤ◌, ◌*ℤ◌, nat_abs, sym, refl, ap, ◌∙◌, subst, inl, arith, lit≤, leb→le}
+use Rattle.std.proofs.Common.{◌≡◌, ℕ, ◌+◌, ◌≤◌, T, List, [], ◌∷◌, ℤ, pos, ◌+ℤ◌, ◌-ℤ◌, ◌*ℤ◌, nat_abs, sym, refl, ap, ◌∙◌, subst, arith, lit≤, leb→le}
 use lib.Ieee.Fits.{and_l, and_r}
 use Rattle.std.proofs.lemmas.Int.{ints}
 use Rattle.floats.specs.Page.{on_page}
 use Rattle.floats.specs.Value.{In}
 use Rattle.floats.proofs.Bounds.{abs_add, abs_sub}
-use Rattle.floats.proofs.Ring.{Expr, num, ◌⊗◌, ◌⊜◌, ring}
+use Rattle.floats.proofs.Ring.{num, ◌⊗◌, ◌⊜◌, ring}
 use Rattle.floats.proofs.Tested.{up_to_whole}
 use Rattle.plane.specs.declared.affine.Affine.{Affine}
 use Rattle.plane.specs.declared.point.Point.{Point}

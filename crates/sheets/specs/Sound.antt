@@ -1,5 +1,5 @@
 -- What the rows of a book that began empty mean: where marks lie, which is uppermost, and what a drawing is. Assumes nothing.
-use Rattle.std.specs.Prelude.{◌≡◌, ℕ, zero, suc, ◌&&◌, T, ◌⊎◌, List, [], ◌∷◌, ◌++◌, map, ℤ, pos, Some, None, Ok, Option, ◌≢◌, Float}
+use Rattle.std.specs.Prelude.{◌≡◌, ℕ, zero, suc, ◌&&◌, T, ◌⊎◌, List, [], ◌∷◌, ◌++◌, map, pos, Some, None, Ok, Option, ◌≢◌, Float}
 use Rattle.floats.specs.Page.{on_grid, on_page}
 use Rattle.plane.specs.declared.bezpath.PathEl.{PathEl}
 use Rattle.plane.specs.declared.point.Point.{Point}

@@ -1,5 +1,5 @@
 -- What a table and a sheet's record stand for: which rows of the book. Assumes nothing.
-use Rattle.std.specs.Prelude.{◌≡◌, ℕ, zero, suc, ◌+◌, ◌-◌, min, T, List, [], ◌∷◌, ◌++◌, map, length, take, drop, Ok, Err, Result, slice_set, Float}
+use Rattle.std.specs.Prelude.{◌≡◌, ℕ, zero, suc, ◌-◌, min, T, List, [], ◌∷◌, ◌++◌, map, length, take, drop, Ok, Err, Result, slice_set, Float}
 use Rattle.plane.specs.declared.affine.Affine.{Affine}
 use Rattle.plane.specs.declared.bezpath.PathEl.{PathEl}
 use Rattle.plane.specs.Affines.{product}

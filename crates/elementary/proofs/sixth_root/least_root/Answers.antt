@@ -1,4 +1,4 @@
-use Rattle.std.proofs.Common.{ℕ, ◌+◌, ◌/◌, ◌^◌, ◌<◌, ◌≤◌, arith}
+use Rattle.std.proofs.Common.{◌+◌, ◌/◌, arith}
 use Rattle.elementary.proofs.Sixths.{sixth_mono}
 use Rattle.elementary.proofs.sixth_root.least_root.Goals as goal
 

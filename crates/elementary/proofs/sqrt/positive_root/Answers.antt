@@ -1,4 +1,4 @@
-use Rattle.std.proofs.Common.{◌^◌, ◌<◌, refl, arith, lit<}
+use Rattle.std.proofs.Common.{refl, arith, lit<}
 use Rattle.std.specs.Bool.{passes}
 use Rattle.elementary.proofs.BitFields.{positive_bits}
 use Rattle.elementary.proofs.RootBits as root

@@ -1,4 +1,4 @@
-use Rattle.std.proofs.Common.{◌≡◌, Bool, ◌||◌, sym, refl, ap}
+use Rattle.std.proofs.Common.{Bool, ◌||◌, sym, ap}
 use lib.Ieee.{eq}
 use Rattle.layers.specs.Moves.{minus_one}
 use Rattle.layers.proofs.moves.is_unit.Goals as goal

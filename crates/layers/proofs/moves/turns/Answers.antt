@@ -1,4 +1,4 @@
-use Rattle.std.proofs.Common.{◌≡◌, Bool, true, ◌||◌, sym, ap, ◌∙◌}
+use Rattle.std.proofs.Common.{◌≡◌, Bool, ◌||◌, sym, ap, ◌∙◌}
 use Rattle.layers.specs.Moves.{units_and_zeros}
 use Rattle.layers.specs.Whole.{turn_test}
 use Rattle.layers.proofs.moves.turns.Goals as goal

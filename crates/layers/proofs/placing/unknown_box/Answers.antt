@@ -1,4 +1,3 @@
-use Rattle.std.proofs.Common.{refl, ◌∙◌}
 use lib.Ieee.{of_bits}
 use Rattle.layers.proofs.placing.unknown_box.Goals as goal
 

@@ -1,5 +1,5 @@
 -- Each entry that is passed stays on the page.
-use Rattle.std.proofs.Common.{◌≡◌, ℕ, ◌+◌, ◌<◌, ◌≤◌, Bool, cond, map, length, take, drop, Some, sym, ap, ◌∙◌, arith, length-take, get_or-take}
+use Rattle.std.proofs.Common.{◌+◌, ◌<◌, ◌≤◌, Bool, cond, map, length, take, drop, Some, sym, ap, ◌∙◌, arith, length-take, get_or-take}
 use Rattle.layers.specs.Moves.{page_offset}
 use Rattle.sheets.specs.declared.sheet.Entry.{Entry}
 use Rattle.sheets.specs.Book.{leaving}

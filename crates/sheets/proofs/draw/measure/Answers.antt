@@ -1,7 +1,6 @@
 -- A refused path ends the count; a path that is granted takes its places.
-use Rattle.std.proofs.Common.{◌≡◌, ℕ, ◌+◌, ◌<◌, ◌≤◌, List, ◌++◌, map, length, Ok, Err, Option, sym, ap, ◌∙◌, arith, length-append}
+use Rattle.std.proofs.Common.{◌≡◌, ℕ, ◌+◌, ◌<◌, ◌++◌, map, length, Ok, Err, Option, sym, ap, ◌∙◌, arith, length-append}
 use lib.ListN.{length-map}
-use Rattle.plane.specs.declared.bezpath.PathEl.{PathEl}
 use Rattle.plane.specs.Affines.{image_el}
 use Rattle.layers.specs.Moves.{read_as}
 use Rattle.sheets.specs.declared.fault.SheetFault.TheVariants.{Path}

@@ -1,5 +1,5 @@
 -- One element more is written; the cursor had it first.
-use Rattle.std.proofs.Common.{◌≡◌, ℕ, suc, ◌<◌, List, ◌∷◌, ◌++◌, map, length, take, sym, ap, ◌∙◌, arith}
+use Rattle.std.proofs.Common.{◌≡◌, suc, ◌<◌, List, ◌∷◌, ◌++◌, map, length, take, sym, ap, ◌∙◌, arith}
 use Rattle.plane.specs.declared.bezpath.PathEl.{PathEl}
 use Rattle.plane.specs.Affines.{image_el}
 use Rattle.sheets.proofs.Drawing.{step_some, pour_more}

@@ -1,8 +1,7 @@
 -- What fits as a whole fits path by path, and nothing of it is refused.
-use Rattle.std.proofs.Common.{◌≡◌, ℕ, ◌+◌, ◌<◌, ◌≤◌, List, ◌++◌, map, length, take, drop, Ok, Err, sym, ap, ◌∙◌, arith, length-take-le}
+use Rattle.std.proofs.Common.{◌≡◌, ℕ, ◌<◌, ◌≤◌, ◌++◌, map, length, take, drop, Ok, Err, sym, ap, ◌∙◌, arith, length-take-le}
 use Rattle.std.proofs.lemmas.List.{drop-drop}
 use Rattle.plane.specs.declared.affine.Affine.{Affine}
-use Rattle.plane.specs.declared.bezpath.PathEl.{PathEl}
 use Rattle.plane.specs.Affines.{image_el}
 use Rattle.sheets.specs.declared.fault.SheetFault.TheVariants.{Path}
 use Rattle.sheets.specs.Book.{marks}

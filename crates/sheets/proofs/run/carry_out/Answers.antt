@@ -1,8 +1,7 @@
 -- From the opening on: the book begins empty.
-use Rattle.std.proofs.Common.{◌≡◌, List, take, sym, ap, ◌∙◌, subst}
+use Rattle.std.proofs.Common.{take, ap, ◌∙◌, subst}
 use Rattle.sheets.specs.declared.sheet.Sheet.{Sheet}
 use Rattle.sheets.specs.Book.{marks}
-use Rattle.sheets.specs.Tables.{counting}
 use Rattle.sheets.specs.Runs.{left, RunByBook}
 use Rattle.sheets.proofs.Sounds.{LawsOf}
 use Rattle.sheets.proofs.Folded.{book_of}

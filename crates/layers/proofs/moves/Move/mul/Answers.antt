@@ -1,4 +1,4 @@
-use Rattle.std.proofs.Common.{Bool, true, false, T, sym, refl, ap, ◌∙◌, subst}
+use Rattle.std.proofs.Common.{T, sym, refl, ap, ◌∙◌, subst}
 use Rattle.std.specs.Bool.{passes}
 use Rattle.plane.specs.declared.affine.Affine.{Affine}
 use Rattle.plane.specs.Affines.{product}

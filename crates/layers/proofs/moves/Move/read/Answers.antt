@@ -1,5 +1,4 @@
-use Rattle.std.proofs.Common.{sym, ap, ◌∙◌}
-use Rattle.layers.specs.Moves.{refusal}
+use Rattle.std.proofs.Common.{sym, ◌∙◌}
 use Rattle.layers.proofs.Refusals.{read_granted, read_refused}
 use Rattle.layers.proofs.moves.Move.read.Goals as goal
 

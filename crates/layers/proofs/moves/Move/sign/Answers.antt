@@ -1,7 +1,6 @@
-use Rattle.std.proofs.Common.{Bool, cond, ℤ, pos, negsuc, sym, ap, ◌∙◌, subst}
-use lib.Ieee.{Float, lt}
+use Rattle.std.proofs.Common.{ℤ, sym, subst}
 use Rattle.floats.specs.Value.{Val}
-use Rattle.plane.specs.Affines.{nought, det}
+use Rattle.plane.specs.Affines.{det}
 use Rattle.layers.specs.Composed.{sign_is_det, sign_by}
 use Rattle.layers.proofs.moves.Move.sign.Goals as goal
 

@@ -1,7 +1,6 @@
-use Rattle.std.proofs.Common.{◌≡◌, map, Ok, sym, ap, ◌∙◌}
+use Rattle.std.proofs.Common.{map, Ok, sym, ap, ◌∙◌}
 use Rattle.plane.specs.declared.affine.Affine.{Affine}
 use Rattle.plane.specs.Affines.{image_el}
-use Rattle.plane.specs.Paths.{Drawn}
 use Rattle.layers.specs.Moves.{read_as}
 use Rattle.layers.specs.Placings.{placed_drawn}
 use Rattle.layers.proofs.placing.PlacingShape.path_elements.Goals as goal

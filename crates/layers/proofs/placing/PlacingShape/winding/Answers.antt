@@ -1,10 +1,7 @@
-use Rattle.std.proofs.Common.{◌≡◌, Bool, cond, ℤ, pos, negsuc, ◌*ℤ◌, sym, ap, ◌∙◌, subst}
+use Rattle.std.proofs.Common.{◌∙◌}
 use lib.Ieee.{lt}
-use Rattle.plane.specs.declared.affine.Affine.{Affine}
-use Rattle.plane.specs.declared.point.Point.{Point}
 use Rattle.plane.specs.Affines.{nought, det}
-use Rattle.layers.specs.Moves.{read_as, sign, taken_back}
-use Rattle.layers.specs.Placings.{placed_wind}
+use Rattle.layers.specs.Moves.{read_as}
 use Rattle.layers.proofs.Signs.{sign_fits, sign_times, placed_at}
 use Rattle.layers.proofs.placing.PlacingShape.winding.Goals as goal
 

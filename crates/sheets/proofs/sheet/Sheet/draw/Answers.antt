@@ -1,7 +1,7 @@
 -- The answer and the buffer over the rows; the book has the same.
-use Rattle.std.proofs.Common.{◌≡◌, ℕ, length, Ok, Err, Option, sym, refl, ap, ◌∙◌, subst}
-use Rattle.sheets.specs.Book.{marks, Inked, all_drawn, draw_answer, draw_buffer}
-use Rattle.sheets.specs.Draws.{measured, Fitting}
+use Rattle.std.proofs.Common.{ℕ, length, Ok, sym, ap, ◌∙◌}
+use Rattle.sheets.specs.Book.{marks, all_drawn, draw_answer, draw_buffer}
+use Rattle.sheets.specs.Draws.{measured}
 use Rattle.sheets.specs.Tables.{rows}
 use Rattle.sheets.proofs.Drawing.{front, all_fit, too_small, stands_refused, drawn_book, tolerated, not_tolerated, handed_on}
 use Rattle.sheets.proofs.sheet.Sheet.draw.Goals as goal

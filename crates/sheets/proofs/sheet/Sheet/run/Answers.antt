@@ -1,5 +1,5 @@
 -- One order more is one more answer of the book.
-use Rattle.std.proofs.Common.{◌≡◌, ℕ, ◌<◌, min, List, length, take, drop, sym, refl, ap, ◌∙◌, subst, arith}
+use Rattle.std.proofs.Common.{◌≡◌, ℕ, ◌<◌, min, length, take, drop, refl, subst, arith}
 use Rattle.sheets.specs.Book.{marks}
 use Rattle.sheets.specs.Runs.{left, RunByBook}
 use Rattle.sheets.proofs.Folded.{left_more, run_more, rest_more}

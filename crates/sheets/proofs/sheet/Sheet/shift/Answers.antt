@@ -1,5 +1,5 @@
 -- The answer by the entry at the position; what is left follows from it.
-use Rattle.std.proofs.Common.{◌≡◌, ℕ, ◌<◌, ◌≤◌, min, Bool, true, false, cond, length, set, None, Ok, Err, sym, refl, ap, ◌∙◌, arith, rules}
+use Rattle.std.proofs.Common.{◌<◌, ◌≤◌, min, Bool, cond, length, set, None, Ok, Err, refl, ap, ◌∙◌, arith, rules}
 use Rattle.layers.specs.Moves.{page_offset}
 use Rattle.sheets.specs.declared.fault.SheetFault.TheVariants.{OffPage}
 use Rattle.sheets.specs.declared.sheet.Entry.{Entry}

@@ -1,7 +1,7 @@
 -- The answer is what the first pass found; what is left follows from it.
-use Rattle.std.proofs.Common.{◌≡◌, ℕ, ◌++◌, map, length, take, drop, Some, None, Option, sym, refl, ap, ◌∙◌}
+use Rattle.std.proofs.Common.{ℕ, ◌++◌, map, length, take, drop, None, sym, refl, ap, ◌∙◌}
 use Rattle.sheets.specs.Book.{by_lowest, leaving}
-use Rattle.sheets.specs.Tables.{held, moved_entry, row_of, rows}
+use Rattle.sheets.specs.Tables.{moved_entry, row_of, rows}
 use Rattle.sheets.proofs.Counts.{rows_count}
 use Rattle.sheets.proofs.Shifts.{shift_all_book}
 use Rattle.sheets.proofs.sheet.Sheet.shift_all.Goals as goal
