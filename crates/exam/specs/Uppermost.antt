@@ -15,7 +15,7 @@ abbrev pub Holds : Point → Mark → Type 0
 Holds p m = wind m p ≡ pos 0 → ⊥
 
 -- What an answer means. Some i: there is a mark at i, it holds p, and each mark above it misses p. Nothing: each mark
--- misses p. (`At P xs i`: the element at i has P. `Every P xs a b`: each from a on and before b has P.)
+-- misses p. (`HoldsAt P xs i`: the element at i has P. `AllWithin P xs a b`: each from a on and before b has P.)
 abbrev pub Uppermost : List Mark → Point → Option ℕ → Type 0
 Uppermost marks p (Some i) = (i < length marks) × HoldsAt (Holds p) marks i × AllWithin (Misses p) marks (i + 1) (length marks)
 Uppermost marks p None = AllWithin (Misses p) marks 0 (length marks)
