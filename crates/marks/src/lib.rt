@@ -2,4 +2,3 @@
 #![tactic(auto)]
 
 pub mod mark;
-pub mod measures;

@@ -1,20 +1,16 @@
 //! A mark on the page: any one of the shapes.
-ghost use Rattle.std.specs.Prelude.{◌≡◌, ◌-◌, ◌^◌, min, length};
+ghost use Rattle.std.specs.Prelude.{◌≡◌};
 ghost use Rattle.plane.specs.Winding.{nonzero};
-ghost use Rattle.marks.specs.Marks.{wind, rest};
+ghost use Rattle.marks.specs.Marks.{wind};
 ghost use Rattle.marks.specs.Marks.{wind as mark_wind, box as mark_box, drawn as mark_drawn, rest as path_rest};
 ghost use Rattle.marks.specs.Lawful.{mark_small, mark_same, mark_boxed, mark_formed};
 
-use ellipses::ellipse::Ellipse;
-use ellipses::path::EllipsePath;
 use plane::bezpath::PathEl;
 use plane::cursor::Cursor;
 use plane::fault::ShapeFault;
 use plane::point::Point;
 use plane::rect::{Rect, RectPath};
 use plane::shape::Shape;
-use rounded::path::RoundedRectPath;
-use rounded::rounded_rect::RoundedRect;
 use shapes::circle::{Circle, CirclePath};
 use shapes::triangle::{Triangle, TrianglePath};
 
@@ -27,10 +23,6 @@ pub enum Mark {
     Circle(Circle),
     /// A triangle.
     Triangle(Triangle),
-    /// A rectangle with rounded corners.
-    RoundedRect(RoundedRect),
-    /// An ellipse.
-    Ellipse(Ellipse),
 }
 
 impl Mark {
@@ -51,24 +43,6 @@ pub enum MarkPath {
     Circle(CirclePath),
     /// On a triangle's.
     Triangle(TrianglePath),
-    /// On a rounded rectangle's.
-    RoundedRect(RoundedRectPath),
-    /// On an ellipse's.
-    Ellipse(EllipsePath),
-}
-
-impl MarkPath {
-    /// How many elements are still to come. The count stops at 2^64 - 1.
-    pub fn count(self) -> u64
-        ensures { result ≡ min (length (rest self)) (2 ^ 64 - 1) }
-    {
-        let mut left = self;
-        let mut count = 0u64;
-        while let Some(_) = left.next() {
-            count = count.saturating_add(1);
-        }
-        count
-    }
 }
 
 impl Cursor for MarkPath {
@@ -79,8 +53,6 @@ impl Cursor for MarkPath {
             MarkPath::Rect(c) => c.next(),
             MarkPath::Circle(c) => c.next(),
             MarkPath::Triangle(c) => c.next(),
-            MarkPath::RoundedRect(c) => c.next(),
-            MarkPath::Ellipse(c) => c.next(),
         }
     }
 }
@@ -107,8 +79,6 @@ impl Shape for Mark {
             Mark::Rect(s) => s.winding(pt),
             Mark::Circle(s) => s.winding(pt),
             Mark::Triangle(s) => s.winding(pt),
-            Mark::RoundedRect(s) => s.winding(pt),
-            Mark::Ellipse(s) => s.winding(pt),
         }
     }
 
@@ -117,8 +87,6 @@ impl Shape for Mark {
             Mark::Rect(s) => s.bounding_box(),
             Mark::Circle(s) => s.bounding_box(),
             Mark::Triangle(s) => s.bounding_box(),
-            Mark::RoundedRect(s) => s.bounding_box(),
-            Mark::Ellipse(s) => s.bounding_box(),
         }
     }
 
@@ -127,8 +95,6 @@ impl Shape for Mark {
             Mark::Rect(s) => Ok(MarkPath::Rect(s.path_elements(tolerance)?)),
             Mark::Circle(s) => Ok(MarkPath::Circle(s.path_elements(tolerance)?)),
             Mark::Triangle(s) => Ok(MarkPath::Triangle(s.path_elements(tolerance)?)),
-            Mark::RoundedRect(s) => Ok(MarkPath::RoundedRect(s.path_elements(tolerance)?)),
-            Mark::Ellipse(s) => Ok(MarkPath::Ellipse(s.path_elements(tolerance)?)),
         }
     }
 }
