@@ -1,6 +1,6 @@
 -- Arcs of ellipses: where they begin, into how many curves they are cut, and each curve's points. Assumes nothing.
 use Rattle.std.specs.Prelude.{◌≡◌, ℕ, zero, suc, Bool, false, not, T, List, [], ◌∷◌, Ok, Err, Result, from_bits, Float}
-use Rattle.std.specs.Float.Ieee.{add, sub, mul, div, le, to_unsigned}
+use Rattle.std.specs.Float.Ieee.{add, sub, mul, div, to_unsigned}
 use Rattle.std.specs.Float.{float_with_sign, float_signum, float_max, ceil, binary64}
 use Rattle.elementary.specs.SixthRoots.{sixth_root_of}
 use Rattle.elementary.specs.Angles.{half_pi, pi, sin_cos, tangent}
@@ -9,6 +9,7 @@ use Rattle.plane.specs.declared.vec2.Vec2.{Vec2}
 use Rattle.plane.specs.declared.bezpath.PathEl.{PathEl}
 use Rattle.plane.specs.declared.bezpath.PathEl.TheVariants.{CurveTo}
 use Rattle.plane.specs.declared.fault.ArcFault.{ArcFault}
+use Rattle.plane.specs.Paths.{stretched, fine_enough as fine}
 use Rattle.plane.specs.Vectors.{point, vec2}
 use Rattle.arcs.specs.declared.arc.Arc.{Arc}
 use Rattle.arcs.specs.declared.arc.ArcPath.{ArcPath}
@@ -41,9 +42,9 @@ abbrev pub first_point : Arc → Point
 first_point a = placed a.center (sampled a.radii a.x_rotation (add binary64 a.start_angle (mul binary64 a.sweep_angle (from_bits binary64 0))))
 
 -- ---- into how many curves
--- 1.1163 × the larger radius in tolerances
-abbrev pub stretched : Arc → Float → Float
-stretched a t = mul binary64 (from_bits binary64 0x3ff1_dc5d_6388_6595) (div binary64 (float_max a.radii.x a.radii.y) t)
+-- the larger radius in tolerances
+abbrev pub scaled_error : Arc → Float → Float
+scaled_error a t = div binary64 (float_max a.radii.x a.radii.y) t
 
 -- 1 / 2π
 abbrev pub turn_over : Float
@@ -62,23 +63,21 @@ arm_of step sweep =
 -- the curve from where the cursor stands to p3, at the angle th
 abbrev pub curve_from : ArcPath → Float → Vec2 → PathEl
 curve_from k th p3 =
-    CurveTo (placed k.center (plus_times k.p0 (sampled k.radii k.x_rotation (add binary64 k.angle0 half_pi)) k.arm_len))
-    (placed k.center (minus_times p3 (sampled k.radii k.x_rotation (add binary64 th half_pi)) k.arm_len))
-    (placed k.center p3)
+    CurveTo (placed k.arc.center (plus_times k.p0 (sampled k.arc.radii k.arc.x_rotation (add binary64 k.angle0 half_pi)) k.arm_len))
+    (placed k.arc.center (minus_times p3 (sampled k.arc.radii k.arc.x_rotation (add binary64 th half_pi)) k.arm_len))
+    (placed k.arc.center p3)
 
 -- the angle and the point at which that curve ends
 abbrev pub next_angle : ArcPath → Float
 next_angle k = add binary64 k.angle0 k.angle_step
 
 abbrev pub next_point : ArcPath → Vec2
-next_point k = sampled k.radii k.x_rotation (next_angle k)
+next_point k = sampled k.arc.radii k.arc.x_rotation (next_angle k)
 
 -- the cursor after that curve, with `left` to come
 abbrev pub moved_on : ArcPath → ℕ → ArcPath
 moved_on k left = record {
-  center = k.center;
-  radii = k.radii;
-  x_rotation = k.x_rotation;
+  arc = k.arc;
   arm_len = k.arm_len;
   angle_step = k.angle_step;
   left = left;
@@ -97,19 +96,17 @@ rest k = curves k.left k
 -- ---- the cursor that an arc gives
 abbrev pub begun : Arc → Float → ArcPath
 begun a t = record {
-  center = a.center;
-  radii = a.radii;
-  x_rotation = a.x_rotation;
-  arm_len = arm_of (div binary64 a.sweep_angle (divided (stretched a t) a.sweep_angle)) a.sweep_angle;
-  angle_step = div binary64 a.sweep_angle (divided (stretched a t) a.sweep_angle);
-  left = to_unsigned 32 (divided (stretched a t) a.sweep_angle);
+  arc = a;
+  arm_len = arm_of (div binary64 a.sweep_angle (divided (stretched (scaled_error a t)) a.sweep_angle)) a.sweep_angle;
+  angle_step = div binary64 a.sweep_angle (divided (stretched (scaled_error a t)) a.sweep_angle);
+  left = to_unsigned 32 (divided (stretched (scaled_error a t)) a.sweep_angle);
   p0 = sampled a.radii a.x_rotation a.start_angle;
   angle0 = a.start_angle;
 }
 
 -- TOO FINE where 1.1163 × the larger radius in tolerances is above 2 ^ 36, or not-a-number
 abbrev pub fine_enough : Arc → Float → Bool
-fine_enough a t = le (stretched a t) (from_bits binary64 0x4230_0000_0000_0000)
+fine_enough a t = fine (scaled_error a t)
 
 abbrev pub Begins : Arc → Float → Result ArcPath ArcFault → Type 0
 Begins a t (Ok k) = T (fine_enough a t) × (k ≡ begun a t)

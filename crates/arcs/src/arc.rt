@@ -1,5 +1,7 @@
 //! An arc of an ellipse, and its curves.
 ghost use Rattle.std.specs.Prelude.{◌≡◌};
+ghost use Rattle.std.specs.Iterator.{YieldsFirst, item_count};
+ghost use Rattle.std.proofs.Common.{rules};
 ghost use Rattle.arcs.specs.Arcs.{rotated, sampled, plus_times, minus_times, placed, first_point, curve_from, divided, arm_of, rest as curves_left, Begins};
 
 use elementary::sixth_root::sixth_root;
@@ -9,12 +11,10 @@ use plane::bezpath::PathEl;
 use plane::cursor::Cursor;
 use plane::fault::ArcFault;
 use plane::point::Point;
+use plane::shape::stretched;
 use plane::vec2::Vec2;
 use std::f64::consts::{FRAC_PI_2, PI};
 use std::num::saturating_f64_to_u32;
-
-// 2³⁶, above which a tolerance is too fine.
-const MOST_STRETCHED: f64 = 68719476736.0;
 
 /// An arc of an ellipse. Shapes build it for their paths.
 #[derive(Clone, Copy)]
@@ -34,9 +34,7 @@ pub struct Arc {
 /// A cursor on the curves of an arc.
 #[derive(Clone, Copy)]
 pub struct ArcPath {
-    center: Point,
-    radii: Vec2,
-    x_rotation: f64,
+    arc: Arc,
     arm_len: f64,
     angle_step: f64,
     // How many curves are left, and where the next begins.
@@ -51,10 +49,7 @@ impl Arc {
         ensures { result ≡ first_point self.now }
     {
         let angle = self.start_angle + self.sweep_angle * 0.0;
-        add(
-            self.center,
-            sample_ellipse(self.radii, self.x_rotation, angle),
-        )
+        add(self.center, self.sample(angle))
     }
 
     /// A cursor on the curves of the arc at this tolerance. It refuses as too fine where 1.1163 times
@@ -62,35 +57,44 @@ impl Arc {
     pub fn append_iter(&self, tolerance: f64) -> Result<ArcPath, ArcFault>
         ensures { Begins self.now tolerance result }
     {
-        let stretched = 1.1163 * (greater(self.radii.x, self.radii.y) / tolerance);
-        if stretched <= MOST_STRETCHED {
-            let n = divide(stretched, self.sweep_angle);
-            let angle_step = self.sweep_angle / n;
-            Ok(ArcPath {
-                center: self.center,
-                radii: self.radii,
-                x_rotation: self.x_rotation,
-                arm_len: arm_length(angle_step, self.sweep_angle),
-                angle_step,
-                left: saturating_f64_to_u32(n),
-                p0: sample_ellipse(self.radii, self.x_rotation, self.start_angle),
-                angle0: self.start_angle,
-            })
-        } else {
-            Err(ArcFault::TooFine)
-        }
+        let error = stretched(greater(self.radii.x, self.radii.y) / tolerance)?;
+        let n = divide(error, self.sweep_angle);
+        let angle_step = self.sweep_angle / n;
+        Ok(ArcPath {
+            arc: *self,
+            arm_len: arm_length(angle_step, self.sweep_angle),
+            angle_step,
+            left: saturating_f64_to_u32(n),
+            p0: self.sample(self.start_angle),
+            angle0: self.start_angle,
+        })
+    }
+
+    // The point of the ellipse at this angle, from its centre.
+    fn sample(&self, angle: f64) -> Vec2
+        ensures { result ≡ sampled self.now.radii self.now.x_rotation angle }
+    {
+        let (s, c) = sin_cos(angle);
+        rotate_pt(
+            Vec2::new(self.radii.x * c, self.radii.y * s),
+            self.x_rotation,
+        )
     }
 }
 
-impl Cursor for ArcPath {
-    ghost rest = { curves_left };
+impl Iterator for ArcPath {
+    type Item = PathEl;
+
+    ghost next_gives = { YieldsFirst curves_left };
+
+    ghost remaining = { item_count curves_left };
 
     fn next(&mut self) -> Option<PathEl> {
         if self.left == 0 {
             return None;
         }
         let angle1 = self.angle0 + self.angle_step;
-        let p3 = sample_ellipse(self.radii, self.x_rotation, angle1);
+        let p3 = self.arc.sample(angle1);
         let el = self.curve_to(angle1, p3);
         self.left -= 1;
         self.p0 = p3;
@@ -99,17 +103,28 @@ impl Cursor for ArcPath {
     }
 }
 
+impl Cursor for ArcPath {
+    ghost rest = { curves_left };
+
+    ghost ready = { λ c. tt };
+
+    ghost steps = { λ c d el s. s };
+
+    ghost ends = { Prim.search rules };
+}
+
 impl ArcPath {
     // The next curve, which ends at the angle `angle1` and at `p3` from the centre.
     fn curve_to(&self, angle1: f64, p3: Vec2) -> PathEl
         ensures { result ≡ curve_from self.now angle1 p3 }
     {
-        let out = sample_ellipse(self.radii, self.x_rotation, self.angle0 + FRAC_PI_2);
-        let back = sample_ellipse(self.radii, self.x_rotation, angle1 + FRAC_PI_2);
+        let center = self.arc.center;
+        let out = self.arc.sample(self.angle0 + FRAC_PI_2);
+        let back = self.arc.sample(angle1 + FRAC_PI_2);
         PathEl::CurveTo(
-            add(self.center, along(self.p0, out, self.arm_len)),
-            add(self.center, against(p3, back, self.arm_len)),
-            add(self.center, p3),
+            add(center, along(self.p0, out, self.arm_len)),
+            add(center, against(p3, back, self.arm_len)),
+            add(center, p3),
         )
     }
 }
@@ -147,14 +162,6 @@ const fn against(p: Vec2, v: Vec2, by: f64) -> Vec2
     ensures { result ≡ minus_times p v by }
 {
     Vec2::new(p.x - v.x * by, p.y - v.y * by)
-}
-
-// The point of the ellipse about the origin at this angle.
-fn sample_ellipse(radii: Vec2, x_rotation: f64, angle: f64) -> Vec2
-    ensures { result ≡ sampled radii x_rotation angle }
-{
-    let (s, c) = sin_cos(angle);
-    rotate_pt(Vec2::new(radii.x * c, radii.y * s), x_rotation)
 }
 
 // The point `pt`, rotated about the origin.

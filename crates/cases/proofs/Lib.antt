@@ -1,2 +1,5 @@
 mod Digits
-mod Numerals
+pub mod Numerals
+mod Paddings
+pub mod Searches
+mod Takings

@@ -1,29 +1,50 @@
 //! Numbers as a list of cases has them, and when two of them agree.
-ghost use Rattle.std.specs.Prelude.{◌≡◌, ◌^◌, ◌<◌, IfSome};
-ghost use Rattle.cases.specs.Texts.{hex_digit, hexadecimal, written};
+ghost use Rattle.std.specs.Prelude.{◌≡◌, ◌^◌, ◌<◌, Some};
+ghost use Rattle.std.specs.List.{list_all};
+ghost use Rattle.std.specs.Result.{result_ok};
+ghost use Rattle.cases.specs.Texts.{Finds, Writes, hexadecimal, is_hex_digit, written};
 ghost use Rattle.cases.specs.Equal.{same_bits, same_value as of_one_value};
 
 use std::fmt;
 use std::num::{f64_from_bits_with_nan, f64_to_bits_with_nan};
+use std::str::FromStr;
 
-/// The number that a word is: `nan`, or the sixteen digits of the bits of any other number.
-pub fn read(word: &str) -> Option<f64>
-    ensures { IfSome result (λ x. word.now ≡ written x) }
-{
-    if word == "nan" {
-        return Some(f64::NAN);
+/// A number, as a list has it: `nan`, or the sixteen digits of the bits of any other number.
+#[derive(Clone, Copy, Debug)]
+pub struct Number(pub f64);
+
+/// A word that is no number.
+#[derive(Clone, Copy, Debug, PartialEq, Eq)]
+pub struct NoNumber;
+
+impl FromStr for Number {
+    type Err = NoNumber;
+
+    ghost from_str_gives = { λ word r. Finds (λ n. Writes word n.0) (result_ok r) };
+
+    fn from_str(word: &str) -> Result<Number, NoNumber> {
+        if word == "nan" {
+            return Ok(Number(f64::NAN));
+        }
+        let x = f64_from_bits_with_nan(sixteen_digits(word).ok_or(NoNumber)?);
+        if x.is_nan() {
+            return Err(NoNumber);
+        }
+        Ok(Number(x))
     }
-    let x = f64_from_bits_with_nan(sixteen_digits(word)?);
-    if x.is_nan() { None } else { Some(x) }
 }
 
-/// Writes a number as a list has it.
-pub fn show<W: fmt::Write>(x: f64, f: &mut fmt::Formatter<W>) -> fmt::Result {
-    if x.is_nan() {
-        f.write_str("nan")
-    } else {
-        let bits = x.to_bits();
-        write!(f, "{bits:016x}")
+impl fmt::Display for Number {
+    ghost output = { λ n. Some (written n.0) };
+
+    fn fmt<W: fmt::Write>(&self, f: &mut fmt::Formatter<W>) -> fmt::Result {
+        let Number(x) = *self;
+        if x.is_nan() {
+            f.write_str("nan")
+        } else {
+            let bits = f64_to_bits_with_nan(x);
+            write!(f, "{bits:016x}")
+        }
     }
 }
 
@@ -41,26 +62,21 @@ pub fn same_value(a: f64, b: f64) -> bool
     a == b || (a.is_nan() && b.is_nan())
 }
 
-// The number with these sixteen hexadecimal digits.
+// The number with these sixteen digits. Std's own reading alone takes capitals and a sign too.
 fn sixteen_digits(word: &str) -> Option<u64>
-    ensures { IfSome result (λ n. (n < 2 ^ 64) × (word.now ≡ hexadecimal 16 n)) }
+    ensures { Finds (λ n. (n < 2 ^ 64) × (word.now ≡ hexadecimal 16 n)) result }
 {
-    if word.len() != 16 {
-        return None;
+    if word.len() == 16 && has_digits_alone(word.as_bytes()) {
+        u64::from_str_radix(word, 16).ok()
+    } else {
+        None
     }
-    let mut value = 0;
-    for byte in word.as_bytes() {
-        value = value * 16 + digit(*byte)?;
-    }
-    Some(value)
 }
 
-fn digit(byte: u8) -> Option<u64>
-    ensures { IfSome result (λ d. (d < 16) × (byte ≡ hex_digit d)) }
+fn has_digits_alone(bytes: &[u8]) -> bool
+    ensures { result ≡ list_all is_hex_digit bytes.now }
 {
-    match byte {
-        b'0'..=b'9' => Some(u64::from(byte - b'0')),
-        b'a'..=b'f' => Some(u64::from(byte - b'a' + 10)),
-        _ => None,
-    }
+    bytes
+        .iter()
+        .all(|byte| matches!(byte, b'0'..=b'9' | b'a'..=b'f'))
 }

@@ -1,6 +1,6 @@
 //! How many cases agree, and how many differ.
 ghost use Rattle.std.specs.Prelude.{◌≡◌, ◌+◌};
-ghost use Rattle.cases.specs.Counts.{at_most, counted};
+ghost use Rattle.cases.specs.Counts.{all_agree, at_most, counted};
 
 /// How many cases agree, and how many differ. A count stops at 2⁶⁴ − 1.
 #[derive(Clone, Copy)]
@@ -34,5 +34,12 @@ impl Tally {
         ensures { result ≡ at_most (self.agree + self.differ) }
     {
         self.agree.saturating_add(self.differ)
+    }
+
+    /// Whether none differs.
+    pub fn all_agree(self) -> bool
+        ensures { result ≡ all_agree self }
+    {
+        self.differ == 0
     }
 }

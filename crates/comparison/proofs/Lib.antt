@@ -1,0 +1,3 @@
+mod Takings
+mod Pairs
+mod Countings

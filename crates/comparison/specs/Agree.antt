@@ -1,21 +1,25 @@
--- When two numbers of an answer agree. Assumes nothing.
-use Rattle.std.specs.Prelude.{Bool, Float}
+-- When two answers agree. Assumes nothing.
+use Rattle.std.specs.Prelude.{◌≡◌, ℕ, Bool, ◌⊎◌, List, Float}
+use Rattle.std.specs.List.{AllZip}
 use Rattle.cases.specs.Equal.{same_bits, same_value}
+use Rattle.cases.specs.Texts.{Writes}
 use Rattle.questions.specs.declared.question.Kind.{Kind}
 use Rattle.questions.specs.declared.question.Kind.TheVariants.{Rect, Circle, Triangle, Rounded, Ellipse, Affine}
-use Rattle.comparison.specs.declared.agree.Zeros.{Zeros}
-use Rattle.comparison.specs.declared.agree.Zeros.TheVariants.{Alike, Signed}
+use Rattle.comparison.specs.Words.{HasWords}
 
--- by their values, or where the sign of a zero counts by their bits
-abbrev pub equal : Zeros → Float → Float → Bool
-equal Alike x y = same_value x y
-equal Signed x y = same_bits x y
+-- in an ellipse, where the sign of a zero counts, by their bits, and else by their values
+abbrev pub equal : Kind → Float → Float → Bool
+equal Rect x y = same_value x y
+equal Circle x y = same_value x y
+equal Triangle x y = same_value x y
+equal Rounded x y = same_value x y
+equal Ellipse x y = same_bits x y
+equal Affine x y = same_value x y
 
--- the sign of a zero counts in an ellipse alone
-abbrev pub zeros_in : Kind → Zeros
-zeros_in Rect = Alike
-zeros_in Circle = Alike
-zeros_in Triangle = Alike
-zeros_in Rounded = Alike
-zeros_in Ellipse = Signed
-zeros_in Affine = Alike
+-- two words are numbers that R holds of, or one text
+abbrev pub SameWord : (Float → Float → Type 0) → List ℕ → List ℕ → Type 0
+SameWord R w v = ((x : Float) × (y : Float) × Writes w x × Writes v y × R x y) ⊎ (w ≡ v)
+
+-- two texts have as many words, each like the other's
+abbrev pub AgreeBy : (Float → Float → Type 0) → List ℕ → List ℕ → Type 0
+AgreeBy R a b = (ws : List (List ℕ)) × (vs : List (List ℕ)) × HasWords a ws × HasWords b vs × AllZip (SameWord R) ws vs

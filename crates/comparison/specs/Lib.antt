@@ -1,2 +1,4 @@
 pub mod Agree
 pub mod Counts
+pub mod Words
+pub mod Cases

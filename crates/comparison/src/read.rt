@@ -1,11 +1,19 @@
 //! Reads the cases of a list.
-use cases::number;
+ghost use Rattle.std.specs.Prelude.{◌≡◌, [], ◌∷◌, IfSome, Float};
+ghost use Rattle.std.specs.Float.{float_to_unsigned};
+ghost use Rattle.std.specs.Int.{w32};
+ghost use Rattle.questions.specs.Names.{kind_of};
+ghost use Rattle.comparison.specs.Words.{Left, Takes, TakesNumbers, TakesSome};
+ghost use Rattle.comparison.specs.Cases.{of_point, of_vector, of_rect, of_circle, of_triangle, of_radii, of_map, OfRounded, AsksShape, Asks, AsksEllipse, AsksMap, Says, CaseOf};
+
+use cases::named::Named;
+use cases::number::Number;
 use ellipses::ellipse::Ellipse;
 use plane::affine::Affine;
 use plane::point::Point;
 use plane::rect::Rect;
 use plane::vec2::Vec2;
-use questions::question::{Ask, EllipseAsk, Kind, MapAsk, Question, What};
+use questions::question::{Ask, EllipseAsk, Kind, MapAsk, Question, ShapeAsk, What};
 use rounded::rounded_rect::RoundedRect;
 use rounded::rounded_rect_radii::RoundedRectRadii;
 use shapes::circle::Circle;
@@ -13,135 +21,213 @@ use shapes::triangle::Triangle;
 use std::num::saturating_f64_to_u32;
 use std::str::SplitWhitespace;
 
-// No question has more numbers.
-const MOST: usize = 12;
-
-/// Reads SHAPE WHAT NUMBER.. -> ANSWER.. as a question and the text of the answer that it should get.
-pub fn case(text: &str) -> Option<(Question, &str)> {
+/// Reads SHAPE WHAT NUMBER.. -> ANSWER.. as a question and the text of the answer that it should get. A question has
+/// just the numbers of its subject and those that it is asked with.
+pub fn case(text: &str) -> Option<(Question, &str)>
+    ensures { IfSome result (λ r. CaseOf text.now r.0 r.1.now) }
+{
     let (asked, expected) = text.split_once(" -> ")?;
-    let mut words = asked.split_whitespace();
-    let subject = words.next().unwrap_or("");
-    let what = words.next().unwrap_or("");
-    let question = question_with(Kind::named(subject)?, What::named(what)?, words)?;
+    let mut words = Words(asked.split_whitespace());
+    let kind = Kind::named(words.word()?)?;
+    let what = What::named(words.word()?)?;
+    let question = words.question(kind, what)?;
+    words.end()?;
     Some((question, expected))
 }
 
-fn question_with(kind: Kind, what: What, words: SplitWhitespace<'_>) -> Option<Question> {
-    question(kind, what, numbers(words, arity(kind, what))?)
-}
+// The words of a question that are still to be read.
+#[derive(Drop)]
+struct Words<'a>(SplitWhitespace<'a>);
 
-// Just `count` numbers, with zeros behind them.
-fn numbers(words: SplitWhitespace<'_>, count: usize) -> Option<[f64; MOST]> {
-    let mut values = [0.0; MOST];
-    let mut given = 0;
-    for word in words {
-        if given >= MOST {
-            return None;
-        }
-        values[given] = number::read(word)?;
-        given += 1;
-    }
-    if given == count { Some(values) } else { None }
-}
-
-// How many numbers a question has: the subject's own, and those that it is asked with.
-fn arity(kind: Kind, what: What) -> usize {
-    let own = match kind {
-        Kind::Rect => 4,
-        Kind::Circle => 3,
-        Kind::Triangle | Kind::Ellipse | Kind::Affine => 6,
-        Kind::Rounded => 8,
-    };
-    match (kind, what) {
-        (Kind::Ellipse, What::New) => 5,
-        (Kind::Ellipse, What::Perimeter) => own + 2,
-        (_, What::Path) => own + 1,
-        (_, What::Winding | What::Contains | What::Point) => own + 2,
-        (_, What::Bbox) => own + 4,
-        (_, What::Mul) => own + 6,
-        _ => own,
-    }
-}
-
-fn question(kind: Kind, what: What, numbers: [f64; MOST]) -> Option<Question> {
-    let [a, b, c, d, e, f, g, h, i, j, k, l] = numbers;
-    match kind {
-        Kind::Rect => Some(Question::Rect(Rect::new(a, b, c, d), ask(what, e, f)?)),
-        Kind::Circle => {
-            let circle = Circle::new(Point::new(a, b), c);
-            Some(Question::Circle(circle, ask(what, d, e)?))
-        }
-        Kind::Triangle => {
-            let triangle = Triangle::new(Point::new(a, b), Point::new(c, d), Point::new(e, f));
-            Some(Question::Triangle(triangle, ask(what, g, h)?))
-        }
-        Kind::Rounded => {
-            let rounded = RoundedRect::new(a, b, c, d, RoundedRectRadii::new(e, f, g, h));
-            rounded_question(rounded, what, i, j)
-        }
-        Kind::Ellipse => ellipse_question(what, [a, b, c, d, e, f], g, h),
-        Kind::Affine => {
-            let map = Affine::new(a, b, c, d, e, f);
-            Some(Question::Affine(map, map_ask(what, [g, h, i, j, k, l])?))
+impl<'a> Words<'a> {
+    // The question of this kind: the numbers of its subject, and those that it is asked with.
+    fn question(&mut self, kind: Kind, what: What) -> Option<Question>
+        ensures kind { IfSome result (λ q. kind_of q ≡ kind) }
+        ensures text { IfSome result (λ q. TakesSome (Says q what) self.old self.new) }
+    {
+        match kind {
+            Kind::Rect => Some(Question::Rect(self.rect()?, self.ask(what)?)),
+            Kind::Circle => Some(Question::Circle(self.circle()?, self.ask(what)?)),
+            Kind::Triangle => Some(Question::Triangle(self.triangle()?, self.ask(what)?)),
+            Kind::Rounded => self.rounded_question(what),
+            Kind::Ellipse => self.ellipse_question(what),
+            Kind::Affine => Some(Question::Affine(self.map()?, self.map_ask(what)?)),
         }
     }
-}
 
-fn rounded_question(rounded: RoundedRect, what: What, x: f64, y: f64) -> Option<Question> {
-    match what {
-        What::Radii => Some(Question::Corners(rounded)),
-        _ => Some(Question::Rounded(rounded, ask(what, x, y)?)),
-    }
-}
-
-// An ellipse is given by its map, or where it is to be made by its centre, radii and angle.
-fn ellipse_question(what: What, own: [f64; 6], x: f64, y: f64) -> Option<Question> {
-    let [a, b, c, d, e, f] = own;
-    match what {
-        What::New => {
-            let made = Ellipse::new(Point::new(a, b), Vec2::new(c, d), e);
-            Some(Question::Ellipse(made, EllipseAsk::Map))
-        }
-        _ => {
-            let ellipse = Ellipse::from_affine(Affine::new(a, b, c, d, e, f));
-            Some(Question::Ellipse(ellipse, ellipse_ask(what, x, y)?))
+    fn rounded_question(&mut self, what: What) -> Option<Question>
+        ensures kind { IfSome result (λ q. kind_of q ≡ Kind.Rounded) }
+        ensures text { IfSome result (λ q. TakesSome (Says q what) self.old self.new) }
+    {
+        let rounded = self.rounded()?;
+        match what {
+            What::Radii => Some(Question::Corners(rounded)),
+            _ => Some(Question::Rounded(rounded, self.ask(what)?)),
         }
     }
-}
 
-fn ask(what: What, x: f64, y: f64) -> Option<Ask> {
-    match what {
-        What::Area => Some(Ask::Area),
-        What::Perimeter => Some(Ask::Perimeter),
-        What::Box => Some(Ask::Frame),
-        What::Winding => Some(Ask::Winding(Point::new(x, y))),
-        What::Contains => Some(Ask::Contains(Point::new(x, y))),
-        What::Path => Some(Ask::Path(x)),
-        _ => None,
+    // An ellipse is given by its map, or where it is to be made by its centre, radii and angle.
+    fn ellipse_question(&mut self, what: What) -> Option<Question>
+        ensures kind { IfSome result (λ q. kind_of q ≡ Kind.Ellipse) }
+        ensures text { IfSome result (λ q. TakesSome (Says q what) self.old self.new) }
+    {
+        match what {
+            What::New => {
+                let made = Ellipse::new(self.point()?, self.vector()?, self.number()?);
+                Some(Question::Ellipse(made, EllipseAsk::Map))
+            }
+            _ => {
+                let ellipse = Ellipse::from_affine(self.map()?);
+                Some(Question::Ellipse(ellipse, self.ellipse_ask(what)?))
+            }
+        }
     }
-}
 
-fn ellipse_ask(what: What, x: f64, y: f64) -> Option<EllipseAsk> {
-    match what {
-        What::Area => Some(EllipseAsk::Area),
-        What::Perimeter => Some(EllipseAsk::Length(x, saturating_f64_to_u32(y))),
-        What::Box => Some(EllipseAsk::Frame),
-        What::Winding => Some(EllipseAsk::Winding(Point::new(x, y))),
-        What::Contains => Some(EllipseAsk::Contains(Point::new(x, y))),
-        What::Path => Some(EllipseAsk::Path(x)),
-        What::Radii => Some(EllipseAsk::Radii),
-        _ => None,
+    fn ask(&mut self, what: What) -> Option<Ask>
+        ensures { IfSome result (λ a. TakesSome (Asks a what) self.old self.new) }
+    {
+        match what {
+            What::Perimeter => Some(Ask::Perimeter),
+            _ => self.shape_ask(what).map(Ask::Shape),
+        }
     }
-}
 
-fn map_ask(what: What, more: [f64; 6]) -> Option<MapAsk> {
-    let [a, b, c, d, e, f] = more;
-    match what {
-        What::Point => Some(MapAsk::Image(Point::new(a, b))),
-        What::Mul => Some(MapAsk::Product(Affine::new(a, b, c, d, e, f))),
-        What::Inverse => Some(MapAsk::Inverse),
-        What::Determinant => Some(MapAsk::Determinant),
-        What::Bbox => Some(MapAsk::Frame(Rect::new(a, b, c, d))),
-        _ => None,
+    fn ellipse_ask(&mut self, what: What) -> Option<EllipseAsk>
+        ensures { IfSome result (λ a. TakesSome (AsksEllipse a what) self.old self.new) }
+    {
+        match what {
+            What::Perimeter => Some(EllipseAsk::Length(self.number()?, self.steps()?)),
+            What::Radii => Some(EllipseAsk::Radii),
+            _ => self.shape_ask(what).map(EllipseAsk::Shape),
+        }
+    }
+
+    fn shape_ask(&mut self, what: What) -> Option<ShapeAsk>
+        ensures { IfSome result (λ a. TakesSome (AsksShape a what) self.old self.new) }
+    {
+        match what {
+            What::Area => Some(ShapeAsk::Area),
+            What::Box => Some(ShapeAsk::Frame),
+            What::Winding => Some(ShapeAsk::Winding(self.point()?)),
+            What::Contains => Some(ShapeAsk::Contains(self.point()?)),
+            What::Path => Some(ShapeAsk::Path(self.number()?)),
+            _ => None,
+        }
+    }
+
+    fn map_ask(&mut self, what: What) -> Option<MapAsk>
+        ensures { IfSome result (λ a. TakesSome (AsksMap a what) self.old self.new) }
+    {
+        match what {
+            What::Point => Some(MapAsk::Image(self.point()?)),
+            What::Mul => Some(MapAsk::Product(self.map()?)),
+            What::Inverse => Some(MapAsk::Inverse),
+            What::Determinant => Some(MapAsk::Determinant),
+            What::Bbox => Some(MapAsk::Frame(self.rect()?)),
+            _ => None,
+        }
+    }
+
+    #[tactic(auto, unfolding(crate::specs::Words::Left))]
+    fn word(&mut self) -> Option<&'a str>
+        ensures { IfSome result (λ w. Takes self.old (w.now ∷ []) self.new) }
+    {
+        self.0.next()
+    }
+
+    // No word is left.
+    #[tactic(auto, unfolding(crate::specs::Words::Left))]
+    fn end(&mut self) -> Option<()>
+        ensures { IfSome result (λ _. Left self.old.0 []) }
+    {
+        match self.0.next() {
+            Some(_) => None,
+            None => Some(()),
+        }
+    }
+
+    fn number(&mut self) -> Option<f64>
+        ensures { IfSome result (λ x. TakesNumbers self.old (x ∷ []) self.new) }
+    {
+        let Number(x) = self.word()?.parse().ok()?;
+        Some(x)
+    }
+
+    // A number of steps: the nearest that there is.
+    fn steps(&mut self) -> Option<u32>
+        ensures { IfSome result (λ n. (x : Float) × (n ≡ float_to_unsigned w32 x) × TakesNumbers self.old (x ∷ []) self.new) }
+    {
+        Some(saturating_f64_to_u32(self.number()?))
+    }
+
+    fn point(&mut self) -> Option<Point>
+        ensures { IfSome result (λ p. TakesNumbers self.old (of_point p) self.new) }
+    {
+        Some(Point::new(self.number()?, self.number()?))
+    }
+
+    fn vector(&mut self) -> Option<Vec2>
+        ensures { IfSome result (λ v. TakesNumbers self.old (of_vector v) self.new) }
+    {
+        Some(Vec2::new(self.number()?, self.number()?))
+    }
+
+    fn rect(&mut self) -> Option<Rect>
+        ensures { IfSome result (λ r. TakesNumbers self.old (of_rect r) self.new) }
+    {
+        Some(Rect::new(
+            self.number()?,
+            self.number()?,
+            self.number()?,
+            self.number()?,
+        ))
+    }
+
+    fn circle(&mut self) -> Option<Circle>
+        ensures { IfSome result (λ c. TakesNumbers self.old (of_circle c) self.new) }
+    {
+        Some(Circle::new(self.point()?, self.number()?))
+    }
+
+    fn triangle(&mut self) -> Option<Triangle>
+        ensures { IfSome result (λ t. TakesNumbers self.old (of_triangle t) self.new) }
+    {
+        Some(Triangle::new(self.point()?, self.point()?, self.point()?))
+    }
+
+    fn rounded(&mut self) -> Option<RoundedRect>
+        ensures { IfSome result (λ s. TakesSome (OfRounded s) self.old self.new) }
+    {
+        Some(RoundedRect::new(
+            self.number()?,
+            self.number()?,
+            self.number()?,
+            self.number()?,
+            self.radii()?,
+        ))
+    }
+
+    fn radii(&mut self) -> Option<RoundedRectRadii>
+        ensures { IfSome result (λ k. TakesNumbers self.old (of_radii k) self.new) }
+    {
+        Some(RoundedRectRadii::new(
+            self.number()?,
+            self.number()?,
+            self.number()?,
+            self.number()?,
+        ))
+    }
+
+    fn map(&mut self) -> Option<Affine>
+        ensures { IfSome result (λ m. TakesNumbers self.old (of_map m) self.new) }
+    {
+        Some(Affine::new(
+            self.number()?,
+            self.number()?,
+            self.number()?,
+            self.number()?,
+            self.number()?,
+            self.number()?,
+        ))
     }
 }

@@ -2,6 +2,7 @@
 use Rattle.std.proofs.Common.{◌≡◌, ℕ, zero, suc, ◌*◌, ◌<◌, Bool, true, false, cond, ◌||◌, T, ℤ, pos, nat_abs, sym, refl, ap, ◌∙◌, subst, mul-pos, zero-mul, arith, ltb→lt, lt→ltb, le-ltb, ne_eqb}
 use lib.Signed.{lt_z}
 use lib.Ieee.{Float, nan, inf, fin, binary64, up, down, of_bits, of_int, round, add, sub, mul, div, neg, lt, le, eq, is_nan, to_signed}
+use lib.Ieee.Bits.{is_true}
 use lib.Ieee.Fits.{down_pos, up_pos}
 use Rattle.std.specs.Float.{float_with_sign, is_sign_negative, float_is_infinite, round_with}
 use Rattle.std.proofs.num.Values.{round-zero}
@@ -29,10 +30,6 @@ nought_is = refl
 quarter_turn : sub binary64 half_pi Z ≡ half_pi
 unfolding sub add neg of_bits round
 quarter_turn = refl
-
-T_true : (b : Bool) → T b → b ≡ true
-T_true true h = refl
-T_true false h = absurd h
 
 -- ---- a number above 0
 above_parts : (n : ℕ) (e : ℤ) → T (lt Z (fin false n e)) → 0 < n * up e
@@ -70,7 +67,7 @@ not_below (fin false n e) h =
 -- ---- the first quarter
 up_there : (y : Float) → T (lt Z y) → first_quarter Z y ≡ half_pi
 up_there y h =
-    ap (λ (b : Bool). cond b (sub binary64 half_pi (small_angle (slope Z y))) (small_angle (slope y Z))) (T_true (lt Z y) h)
+    ap (λ (b : Bool). cond b (sub binary64 half_pi (small_angle (slope Z y))) (small_angle (slope y Z))) (is_true (lt Z y) h)
     ∙ ap (λ (z : Float). sub binary64 half_pi z) (ap small_angle (no_slope y h) ∙ small_nought)
     ∙ quarter_turn
 

@@ -1,21 +1,15 @@
 -- What the bits of a number above 0 are read as, by the exponent's field and the digits' field. Assumes nothing.
-use Rattle.std.proofs.Common.{◌≡◌, ℕ, zero, suc, ◌+◌, ◌-◌, ◌*◌, ◌/◌, ◌%◌, ◌^◌, ◌<◌, ◌≤◌, Bool, true, false, cond, not, T, eqb, leb, ◌⊎◌, sym, refl, ap, ◌∙◌, subst, inl, inr, le_trans, le_of_eq, lt_of_lt_of_le, lt_of_le_of_lt, mul-le-mul_right, mod-eq_of_lt, mul-lt-mul_of_pos_right, arith, le→leb, eqb→eq, leb→le, pow_pos, pow-add}
-use lib.Dec.{not_T, nleb→lt}
+use Rattle.std.proofs.Common.{◌≡◌, ℕ, zero, suc, ◌+◌, ◌-◌, ◌*◌, ◌/◌, ◌%◌, ◌^◌, ◌<◌, ◌≤◌, Bool, true, false, cond, T, eqb, leb, sym, refl, ap, ◌∙◌, subst, inl, inr, le_trans, le_of_eq, lt_of_lt_of_le, lt_of_le_of_lt, mul-le-mul_right, mod-eq_of_lt, mul-lt-mul_of_pos_right, arith, le→leb, eqb→eq, pow_pos, pow-add}
+use lib.Dec.{not_T}
 use lib.Arith.{lt→nleb}
 use lib.Count.{count_leading_zeros, leading_top}
 use lib.Ieee.{Float, nan, inf, binary64, odd, lt, fits, of_fields, of_bits, to_bits}
 use lib.Ieee.Exact.{HasValue, odd_sign}
 use lib.Ieee.Bits.{is_true, is_false, cond_no, of_bits-to_bits}
 use Rattle.std.specs.Float.{float_zero as zeroF, float_is_finite}
-use Rattle.elementary.proofs.UnitSizes.{value_as, pow_lt_back}
-
--- ---- two numbers compared
-pub either : (a b : ℕ) → (a < b) ⊎ (b ≤ a)
-either a b = go (leb b a) (leb→le b a) (nleb→lt b a)
-  where
-    go : (t : Bool) → (T t → b ≤ a) → (T (not t) → a < b) → (a < b) ⊎ (b ≤ a)
-    go true h k = inr (h tt)
-    go false h k = inl (k tt)
+use Rattle.std.proofs.lemmas.Bool.{cases_lt}
+use Rattle.floats.proofs.Monotone.{rescale}
+use Rattle.elementary.proofs.UnitSizes.{pow_lt_back}
 
 -- ---- the fields
 read : (b : ℕ) → b < 2 ^ 63 → of_bits binary64 b ≡ of_fields binary64 false (b / 2 ^ 52) (b % 2 ^ 52)
@@ -95,9 +89,9 @@ bits_between : (b : ℕ) → T (lt zeroF (of_bits binary64 b)) → T (float_is_f
 bits_between zero p t = absurd (zero_bits p)
 bits_between (suc b) p t = (
   omega arith,
-  elim (either (suc b) (2 ^ 63)) [
+  elim (cases_lt (suc b) (2 ^ 63)) [
     | inr h ↦ absurd (negative (suc b) h p)
-    | inl h ↦ elim (either (suc b) 0x7ff0_0000_0000_0000) [ inl l ↦ l | inr l ↦ absurd (infinite (suc b) h l t) ]
+    | inl h ↦ elim (cases_lt (suc b) 0x7ff0_0000_0000_0000) [ inl l ↦ l | inr l ↦ absurd (infinite (suc b) h l t) ]
   ],
 )
 
@@ -116,7 +110,7 @@ normal_scaled b h n =
     let t = b % 2 ^ 52 in
     let e : b / 2 ^ 52 ≡ suc x = omega arith in
     let k : b / 2 ^ 52 + 51 ≡ x + 52 = omega arith in
-    value_as (of_bits binary64 b) false ((2 ^ 52 + t) * 2 ^ x) (2 ^ 1074) ((t + 2 ^ 52) * 2 ^ (b / 2 ^ 52 + 51)) (2 ^ 1126) (pow_pos 1074)
+    rescale (of_bits binary64 b) false ((2 ^ 52 + t) * 2 ^ x) (2 ^ 1074) ((t + 2 ^ 52) * 2 ^ (b / 2 ^ 52 + 51)) (2 ^ 1126) (pow_pos 1074)
     (lead_up (2 ^ x) t (2 ^ 52) (2 ^ 1074) ∙ ap (λ (z : ℕ). (t + 2 ^ 52) * z * 2 ^ 1074) (sym (ap (λ (z : ℕ). 2 ^ z) k ∙ pow-add 2 x 52)))
     (normal_value b x t e refl (omega arith))
 
@@ -152,7 +146,7 @@ module _ (b h : ℕ) (some : 0 < b) (small : b < 2 ^ 52) (places : h + 53 ≡ 64
   shift_value =
       let s = count_leading_zeros 64 b - h in
       let r : 52 ≡ s + (52 - s) = omega (arith, shift_fits.1) in
-      value_as (of_bits binary64 b) false (b * 2 ^ 0) (2 ^ 1074) ((b * 2 ^ s) % 2 ^ 64 * 2 ^ (52 - s)) (2 ^ 1126) (pow_pos 1074)
+      rescale (of_bits binary64 b) false (b * 2 ^ 0) (2 ^ 1074) ((b * 2 ^ s) % 2 ^ 64 * 2 ^ (52 - s)) (2 ^ 1126) (pow_pos 1074)
       (sym (ap (λ (y : ℕ). y * 2 ^ (52 - s) * 2 ^ 1074) kept ∙ whole b (2 ^ s) (2 ^ (52 - s)) (2 ^ 1074) (2 ^ 52) (sym (ap (λ (y : ℕ). 2 ^ y) r ∙ pow-add 2 s (52 - s)))))
       (subnormal_value b small)
     where

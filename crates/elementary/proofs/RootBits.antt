@@ -7,7 +7,8 @@ use Rattle.std.specs.Float.{float_zero as zeroF, float_is_finite, sqrt}
 use Rattle.std.proofs.lemmas.Nat.{mul-le}
 use Rattle.std.proofs.num.Patterns.{up_to_infinity}
 use Rattle.elementary.specs.Roots.{Units, NearestRoot, NearestWhole}
-use Rattle.elementary.proofs.UnitSizes.{value_same, value_as, units_of}
+use Rattle.floats.proofs.Monotone.{rescale}
+use Rattle.elementary.proofs.UnitSizes.{value_same, units_of}
 use Rattle.elementary.proofs.BitFields.{normal_value}
 use Rattle.elementary.proofs.NearestRoots.{nearest_root}
 use Rattle.elementary.proofs.RootDefined.{defined}
@@ -105,7 +106,7 @@ module _ (x : Float) (m k q : ℕ) (f : T (fits binary64 x)) (p : T (lt zeroF x)
       let D = m * (1 + k % 2) * 2 ^ 52 in
       let g = root_digits (m * (1 + k % 2)) q e.0 e.1 n in
       let own : HasValue x false (m * 2 ^ k) (2 ^ 1126) = subst (λ (z : Float). HasValue z false (m * 2 ^ k) (2 ^ 1126)) (of_bits-to_bits binary64 x f) value in
-      let scaled : HasValue x false (v * 2 ^ 52) (2 ^ 1126) = value_as x false v (2 ^ 1074) (v * 2 ^ 52) (2 ^ 1126) (pow_pos 1074) (moved v (2 ^ 52) (2 ^ 1074)) u.2.1 in
+      let scaled : HasValue x false (v * 2 ^ 52) (2 ^ 1126) = rescale x false v (2 ^ 1074) (v * 2 ^ 52) (2 ^ 1126) (pow_pos 1074) (moved v (2 ^ 52) (2 ^ 1074)) u.2.1 in
       let same : v * 2 ^ 1074 ≡ D * (2 ^ j * 2 ^ j) = square v m k h sum (value_same x false false (m * 2 ^ k) (v * 2 ^ 52) (2 ^ 1126) own scaled) in
       let large : 2 ^ 52 * 2 ^ 52 ≤ D = mul-le-mul_right (2 ^ 52) e.0 in
       let J : j < 2000 = omega arith in

@@ -13,7 +13,7 @@ use Rattle.std.specs.Float.Ieee.{root_below, root_twice, sqrt}
 use Rattle.std.proofs.lemmas.Nat.{mul-le}
 use Rattle.elementary.specs.Roots.{Units, NearestWhole}
 use Rattle.elementary.proofs.UnitSizes.{units_same}
-use Rattle.elementary.proofs.BitFields.{either}
+use Rattle.std.proofs.lemmas.Bool.{cases_lt}
 
 -- ---- the whole part of a root
 abbrev Whole : ℕ → ℕ → Type 0
@@ -95,7 +95,7 @@ nearest_at n U q r h e =
     ∙ ap (λ (z : ℕ). nearest q (compare (z * 2) U)) (digits_mod q h)
 
 rounded : (n U q : ℕ) → 0 < q → (2 * q - 1) * U < 2 * n → 2 * n < (2 * q + 1) * U → nearest (n / U) (compare (n % U * 2) U) ≡ q
-rounded n U q Q a b = elim (either n (q * U)) [
+rounded n U q Q a b = elim (cases_lt n (q * U)) [
   | inr l ↦
       let r = n - q * U in
       nearest_at n U q r (omega arith) (omega arith) ∙ ap (nearest q) (compare_lt (r * 2) U (omega arith))

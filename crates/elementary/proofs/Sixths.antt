@@ -1,12 +1,19 @@
 -- Sixth powers, and the least sixteenth whose sixth power is enough. Assumes nothing.
-use Rattle.std.proofs.Common.{◌≡◌, ℕ, zero, suc, ◌+◌, ◌*◌, ◌^◌, ◌<◌, ◌≤◌, Bool, true, false, cond, not, ◌&&◌, T, leb, ℤ, pos, sym, refl, ap, ◌∙◌, subst, inl, inr, add-zero, mul-le-mul_right, zero-mul, le_of_mul-le-mul_right, arith, lit<, lit≤, le→leb, leb→le}
-use native.Mathlib.Nat.{pow-succ', pow-zero, pow-le-pow_left, eq_of_mul-eq-mul_right}
+use Rattle.std.proofs.Common.{◌≡◌, ℕ, zero, suc, ◌+◌, ◌*◌, ◌^◌, ◌<◌, ◌≤◌, Bool, true, false, cond, not, ◌&&◌, ◌||◌, T, T_not, Less, Equal, Greater, leb, ℤ, pos, sym, refl, ap, ◌∙◌, subst, inl, inr, add-zero, mul-le-mul_right, zero-mul, le_of_mul-le-mul_right, arith, lit<, lit≤, le→leb, leb→le}
+use native.Mathlib.Nat.{pow-le-pow_left, eq_of_mul-eq-mul_right}
 use lib.Dec.{nleb→lt}
 use lib.Signed.{le_z}
 use Rattle.std.proofs.lemmas.Int.{ints}
 use lib.Ieee.{Float, nan, inf, fin, binary64, unlike, up, down, round, of_bits, of_int, mul, lt, le, eq, fits, to_unsigned}
-use lib.Ieee.Fits.{down_pos, mul-fits}
+use lib.Ieee.Bits.{is_true, is_false}
+use lib.Ieee.Fits.{and_l, and_r, down_pos, mul-fits}
+use Rattle.std.specs.Prelude.{Some, None}
 use Rattle.std.specs.Float.{ceil}
+use Rattle.std.specs.Bool.{passes, fails}
+use Rattle.std.specs.Ordering.{float_partial_cmp, partial_le, partial_lt, is_some_and, is_le as not_greater}
+use Rattle.std.specs.declared.ops.RangeInclusive.{RangeInclusive}
+use Rattle.std.specs.Range.{range_inclusive_start, range_inclusive_end, range_inclusive_exhausted, range_inclusive_contains}
+use Rattle.std.proofs.lemmas.Bool.{cond-true, cond-false}
 use Rattle.std.proofs.num.Values.{round-zero}
 use Rattle.floats.specs.Value.{signed, Is, Val, In}
 use Rattle.floats.proofs.Rounded.{order}
@@ -20,9 +27,6 @@ use Rattle.elementary.proofs.Numbers.{no_number}
 use Rattle.elementary.proofs.Scaled.{Ceiling, parts, no_parts, times_power, ceil_reads}
 
 -- ---- the sixth power
-pub sixth_is : (k : ℕ) → k * k * k * (k * k * k) ≡ k ^ 6
-sixth_is k = sym (pow-succ' k 5 ∙ ap (λ (z : ℕ). k * z) (pow-succ' k 4 ∙ ap (λ (z : ℕ). k * z) (pow-succ' k 3 ∙ ap (λ (z : ℕ). k * z) (pow-succ' k 2 ∙ ap (λ (z : ℕ). k * z) (pow-succ' k 1 ∙ ap (λ (z : ℕ). k * z) (pow-succ' k 0 ∙ ap (λ (z : ℕ). k * z) (pow-zero k)))))) ∙ omega arith)
-
 pub sixth_mono : (j k : ℕ) → j ≤ k → j ^ 6 ≤ k ^ 6
 sixth_mono j k h = pow-le-pow_left h 6
 
@@ -130,36 +134,52 @@ sixteenth k h = subst (λ (z : ℤ). Val (mul binary64 (of_int binary64 (pos k))
     one : In (of_bits binary64 0x3fb0_0000_0000_0000) (pos 1) 4 1
     one = record { val = sixteenth_is; size = lit≤ tt }
 
-not_both : (s t : Bool) → T s → T t → T (not (s && t)) → ⊥
-not_both true true p q r = r
-not_both true false p q r = q
-not_both false t p q r = p
+-- ---- the test of the range: both comparisons
+both_true : (s t : Bool) → T s → T t → T (s && t)
+both_true true t h k = k
+both_true false t h k = h
 
-pub not_first : (s t : Bool) → s ≡ false → T (not (s && t))
-not_first s t e = subst (λ (b : Bool). T (not (b && t))) (sym e) tt
+partial_le_is : (x y : Float) → partial_le float_partial_cmp x y ≡ le x y
+unfolding le
+partial_le_is x y = at (lt x y) (eq x y) (lt y x)
+  where
+    at : (p q r : Bool) → is_some_and not_greater (cond p (Some Less) (cond q (Some Equal) (cond r (Some Greater) None))) ≡ (p || q)
+    at true q r = refl
+    at false true r = refl
+    at false false true = refl
+    at false false false = refl
 
-pub not_second : (s t : Bool) → t ≡ false → T (not (s && t))
-not_second true t e = subst (λ (b : Bool). T (not b)) (sym e) tt
-not_second false t e = tt
+module _ (r : RangeInclusive Float) (v : Float) (t : Bool) (from : range_inclusive_start r ≡ of_bits binary64 0) (to : range_inclusive_end r ≡ most) (whole : range_inclusive_exhausted r ≡ false)
+    (told : t ≡ range_inclusive_contains float_partial_cmp r v) where
+  tested : t ≡ in_range v
+  tested =
+      told ∙ (λ i. partial_le_is (range_inclusive_start r) v i && cond (whole i) (partial_lt float_partial_cmp v (range_inclusive_end r)) (partial_le_is v (range_inclusive_end r) i))
+      ∙ (λ i. le (from i) v && le v (to i))
 
-pub in_range_root : (v : Float) (N k : ℕ) → T (fits binary64 v) → N ≡ to_unsigned 64 (ceil binary64 (mul binary64 v scale)) → T (le (of_bits binary64 0) v) → T (le v most)
+  pub inside : t ≡ true → T (in_range v)
+  inside e = passes (in_range v) (sym tested ∙ e)
+
+  pub outside : t ≡ false → T (not (in_range v))
+  outside e = fails (in_range v) (sym tested ∙ e)
+
+pub in_range_root : (v : Float) (N k : ℕ) → T (fits binary64 v) → N ≡ to_unsigned 64 (ceil binary64 (mul binary64 v scale)) → T (in_range v)
     → (1 ≤ k) × (k ≤ 1024) → N ≤ k ^ 6 → ((j : ℕ) → j < k → 1 ≤ j → j ^ 6 < N) → SixthRoot v (mul binary64 (of_int binary64 (pos k)) (of_bits binary64 0x3fb0_0000_0000_0000))
-in_range_root v N k F e z h b o l = record {
+in_range_root v N k F e t b o l = record {
   root = λ n c C w g.
       let r = needed v n c C F w g in
       (k, least_sixth n c N k (subst (Ceiling (n * 2 ^ 24) c) (sym (e ∙ r.1)) r.2) b o l, sixteenth k b.1);
-  outside = λ t. absurd (not_both (le (of_bits binary64 0) v) (le v most) z h t);
+  outside = λ u. absurd (T_not (in_range v) u t);
 }
 
 pub out_of_range_root : (v : Float) → T (not (in_range v)) → SixthRoot v (of_bits binary64 0x7ff8_0000_0000_0000)
 out_of_range_root v t = record {
-  root = λ n c C w g. let r = ranged_back v n c C w g in absurd (not_both (le (of_bits binary64 0) v) (le v most) r.0 r.1 t);
+  root = λ n c C w g. let r = ranged_back v n c C w g in absurd (T_not (in_range v) t (both_true (le (of_bits binary64 0) v) (le v most) r.0 r.1));
   outside = λ _. no_number;
 }
 
-pub need_fits : (v : Float) (N : ℕ) → T (fits binary64 v) → N ≡ to_unsigned 64 (ceil binary64 (mul binary64 v scale)) → T (le (of_bits binary64 0) v) → T (le v most) → N ≤ 2 ^ 60
-need_fits v N F e z h =
-    let o = ranged v z h in
+pub need_fits : (v : Float) (N : ℕ) → T (fits binary64 v) → N ≡ to_unsigned 64 (ceil binary64 (mul binary64 v scale)) → T (in_range v) → N ≤ 2 ^ 60
+need_fits v N F e t =
+    let o = ranged v (and_l (le (of_bits binary64 0) v) (le v most) t) (and_r (le (of_bits binary64 0) v) (le v most) t) in
     let r = needed v o.0 o.1 o.2 F o.3 o.4 in
     need_most o.0 o.1 N o.4 (subst (Ceiling (o.0 * 2 ^ 24) o.1) (sym (e ∙ r.1)) r.2)
 
@@ -192,24 +212,15 @@ least_once N j k oj ok hj hk lj lk = elim (order j k) [
   | inr o ↦ elim o [ inl e ↦ e | inr g ↦ absurd (omega (arith, lj k g ok)) ]
 ]
 
-pub in_range_defined : (v : Float) (N k : ℕ) → N ≡ need_of v → N ≤ 2 ^ 60 → T (le (of_bits binary64 0) v) → T (le v most) → (1 ≤ k) × (k ≤ 1024) → N ≤ k ^ 6 → ((j : ℕ) → j < k → 1 ≤ j → j ^ 6 < N)
+pub in_range_defined : (v : Float) (N k : ℕ) → N ≡ need_of v → N ≤ 2 ^ 60 → T (in_range v) → (1 ≤ k) × (k ≤ 1024) → N ≤ k ^ 6 → ((j : ℕ) → j < k → 1 ≤ j → j ^ 6 < N)
     → mul binary64 (of_int binary64 (pos k)) sixteenth_float ≡ sixth_root_of v
 unfolding sixth_root_of
-in_range_defined v N k e m z h b o l =
+in_range_defined v N k e m t b o l =
     let r = first_least 1023 1 N (omega arith) m (λ j h' o'. absurd (omega arith)) in
     let same : k ≡ first_from 1023 1 N = least_once N k (first_from 1023 1 N) b.0 r.0 o r.2 l r.3 in
     ap (λ (n : ℕ). mul binary64 (of_int binary64 (pos n)) sixteenth_float) (same ∙ ap (first_from 1023 1) e)
-    ∙ sym (ap (λ (t : Bool). cond t (mul binary64 (of_int binary64 (pos (first_from 1023 1 (need_of v)))) sixteenth_float) (of_bits binary64 0x7ff8_0000_0000_0000)) (both_true (le (of_bits binary64 0) v) (le v most) z h))
-  where
-    both_true : (s t : Bool) → T s → T t → (s && t) ≡ true
-    both_true true true p q = refl
-    both_true true false p q = absurd q
-    both_true false t p q = absurd p
+    ∙ sym (cond-true (in_range v) _ _ (is_true (in_range v) t))
 
 pub out_of_range_defined : (v : Float) → T (not (in_range v)) → of_bits binary64 0x7ff8_0000_0000_0000 ≡ sixth_root_of v
 unfolding sixth_root_of
-out_of_range_defined v t = of (in_range v) t
-  where
-    of : (b : Bool) → T (not b) → of_bits binary64 0x7ff8_0000_0000_0000 ≡ cond b (mul binary64 (of_int binary64 (pos (first_from 1023 1 (need_of v)))) sixteenth_float) (of_bits binary64 0x7ff8_0000_0000_0000)
-    of true h = absurd h
-    of false h = refl
+out_of_range_defined v t = sym (cond-false (in_range v) _ _ (is_false (in_range v) t))

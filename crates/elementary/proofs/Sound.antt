@@ -1,11 +1,14 @@
 -- The laws of the angles: the count of quarter turns, finite answers, and the axes. Assumes nothing.
 use Rattle.std.proofs.Common.{◌≡◌, ℕ, suc, ◌+◌, ◌^◌, ◌<◌, ◌≤◌, Bool, true, false, cond, T, eqb, ltb, leb, ℤ, pos, nat_abs, sym, refl, subst, arith}
 use lib.IntN.{+ℤ_idr}
-use lib.Ieee.{Float, nan, inf, fin, binary64, of_bits, add, mul, neg, lt, le, eq}
+use lib.Ieee.{Float, fin, binary64, of_bits, add, mul, neg, lt, le, eq}
+use lib.Ieee.Bits.{is_true}
 use lib.Ieee.Scale.{finite}
+use Rattle.std.proofs.lemmas.Bool.{cond-true}
 use Rattle.std.specs.Float.{float_with_sign, round_ties_even}
 use Rattle.floats.specs.Value.{Is, Val}
 use Rattle.floats.proofs.Exactly.{val_add}
+use Rattle.floats.proofs.Distances.{neg_finite}
 use Rattle.elementary.specs.Angles.{one, half_pi, half_pi_rest, two_over_pi, quarters, left_over, folded, near_sine, near_cosine, turned, quarter, largest_angle, sin_cos}
 use Rattle.elementary.specs.Laws.{Taken, NearestWhole, Angles}
 use Rattle.elementary.proofs.Axes.{at_nought, right, above, left, below}
@@ -85,12 +88,6 @@ quarters_most th t =
     record { most = (r.k, 1, omega arith, unsigned (round_ties_even binary64 x) r.k r.small r.value, omega (arith, r.small)) }
 
 -- ---- finite answers
-neg_finite : (x : Float) → T (finite x) → T (finite (neg x))
-unfolding neg
-neg_finite nan h = h
-neg_finite (inf s) h = h
-neg_finite (fin s m e) h = tt
-
 turned_finite : (n : ℕ) (s c : Float) → T (finite s) → T (finite c) → T (finite (turned n s c).0) × T (finite (turned n s c).1)
 turned_finite n s c S C = of (eqb n 0) (eqb n 1) (eqb n 2)
   where
@@ -105,11 +102,7 @@ turned_finite n s c S C = of (eqb n 0) (eqb n 1) (eqb n 2)
 
 taken_is : (th : Float) → Taken th → sin_cos th ≡ turned (quarter (quarters th)) (near_sine (left_over th (quarters th))) (near_cosine (left_over th (quarters th)))
 unfolding sin_cos
-taken_is th t = chosen (le (float_with_sign false th) largest_angle) t _ _
-  where
-    chosen : (b : Bool) → T b → (x y : Float × Float) → cond b x y ≡ x
-    chosen true h x y = refl
-    chosen false h x y = absurd h
+taken_is th t = cond-true _ _ _ (is_true _ t)
 
 finite_both : (th : Float) → Taken th → T (finite (sin_cos th).0) × T (finite (sin_cos th).1)
 finite_both th t =

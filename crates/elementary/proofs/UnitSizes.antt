@@ -1,12 +1,12 @@
 -- An `f64` from 0 up by its size: at most 53 binary digits and zeros after them, in units of 2 ^ -1074. Its size and its sign are all of it. Assumes nothing.
-use Rattle.std.proofs.Common.{◌≡◌, ℕ, zero, suc, ◌+◌, ◌-◌, ◌*◌, ◌/◌, ◌%◌, ◌^◌, ◌<◌, ◌≤◌, Bool, true, false, ◌&&◌, T, eqb, ltb, leb, ℤ, pos, negsuc, sym, refl, ap, ◌∙◌, true≢false, lt_of_lt_of_le, le_of_suc-le-suc, lt_irrefl, zero-lt-suc, mul-pos, lt_of_not-le, mul-div_cancel, arith, ltb→lt, leb→le, pow_pos, pow_mono, pow-add}
+use Rattle.std.proofs.Common.{◌≡◌, ℕ, zero, suc, ◌+◌, ◌-◌, ◌*◌, ◌/◌, ◌%◌, ◌^◌, ◌<◌, ◌≤◌, Bool, true, false, ◌&&◌, T, eqb, ltb, leb, ℤ, pos, negsuc, sym, refl, ap, ◌∙◌, true≢false, lt_of_lt_of_le, lt_irrefl, zero-lt-suc, mul-pos, lt_of_not-le, mul-div_cancel, arith, ltb→lt, leb→le, pow_pos, pow_mono, pow-add}
 use native.Mathlib.Nat.{eq_of_mul-eq-mul_right}
-use lib.Pow.{pow-lt}
 use lib.Ieee.{Float, nan, inf, fin, binary64, up, down, size, lt, fits, to_bits, of_bits}
 use lib.Ieee.Fits.{and_l, and_r, down_pos}
 use lib.Ieee.Exact.{HasValue}
 use lib.Ieee.Bits.{of_bits-to_bits}
 use Rattle.std.specs.Float.{float_zero as zeroF, float_is_finite}
+use Rattle.floats.proofs.Monotone.{exponents}
 use Rattle.elementary.specs.Roots.{Units}
 
 -- ---- values
@@ -15,17 +15,7 @@ value_same nan s t a b c h k = absurd h
 value_same (inf u) s t a b c h k = absurd h
 value_same (fin u m e) s t a b c h k = eq_of_mul-eq-mul_right (down e) (down_pos e) a b (sym h.1 ∙ k.1)
 
--- from one fraction to an equal one
-pub value_as : (x : Float) (s : Bool) (a c b d : ℕ) → 0 < c → a * d ≡ b * c → HasValue x s a c → HasValue x s b d
-value_as nan s a c b d C e h = h
-value_as (inf t) s a c b d C e h = h
-value_as (fin t m y) s a c b d C e h =
-    (h.0, eq_of_mul-eq-mul_right c C (m * up y * d) (b * down y) (omega (arith, ap (λ (z : ℕ). z * d) h.1, ap (λ (z : ℕ). z * down y) e)))
-
 -- ---- the digits of an `f64`
-pub pow_le_back : (a b : ℕ) → 2 ^ a ≤ 2 ^ b → a ≤ b
-pow_le_back a b h = le_of_suc-le-suc (lt_of_not-le (λ (g : suc b ≤ a). lt_irrefl (2 ^ b) (lt_of_lt_of_le (pow-lt g) h)))
-
 pub pow_lt_back : (a b : ℕ) → 2 ^ a < 2 ^ b → a < b
 pow_lt_back a b h = lt_of_not-le (λ (g : b ≤ a). lt_irrefl (2 ^ a) (lt_of_lt_of_le h (pow_mono g)))
 
@@ -44,7 +34,7 @@ parted k P h = omega arith
 placed : (m : ℕ) (e : ℤ) → m < 2 ^ 53 → down e ≤ 2 ^ 1074 → Digits (fin false m e)
 placed m (pos k) h l = (m, k + 1074, h, (refl, carried m k (2 ^ 1074) ∙ ap (λ (z : ℕ). m * z * 1) (sym (pow-add 2 k 1074))))
 placed m (negsuc k) h l =
-    let s : suc k ≤ 1074 = pow_le_back (suc k) 1074 l in
+    let s : suc k ≤ 1074 = exponents (suc k) 1074 l in
     (m, 1074 - suc k, h, (refl, joined m (2 ^ (1074 - suc k)) (2 ^ suc k) (2 ^ 1074) (sym (pow-add 2 (1074 - suc k) (suc k)) ∙ ap (λ (z : ℕ). 2 ^ z) (parted k 1074 s))))
 
 none : (e : ℤ) → 0 * up e * 2 ^ 1074 ≡ 0 * 2 ^ 0 * down e

@@ -1,5 +1,5 @@
 -- Sine, cosine, tangent and the angle of a vector: by which steps they are computed. Assumes nothing.
-use Rattle.std.specs.Prelude.{ℕ, Bool, false, cond, ◌||◌, List, [], ◌∷◌, pos, ◌==◌, from_bits, is_nan, unsigned_abs, Float}
+use Rattle.std.specs.Prelude.{ℕ, Bool, false, cond, ◌||◌, List, [], ◌∷◌, fold, pos, ◌==◌, from_bits, is_nan, unsigned_abs, Float}
 use Rattle.std.specs.Float.Ieee.{of_int, add, sub, mul, div, neg, lt, le, eq, to_signed}
 use Rattle.std.specs.Float.{float_with_sign, is_sign_negative, float_is_infinite, round_ties_even, binary64}
 use Rattle.std.specs.Int.{int_rem_euclid}
@@ -49,10 +49,9 @@ left_over th k = sub binary64 (sub binary64 th (mul binary64 k half_pi)) (mul bi
 abbrev pub folded : Float → Float → ℕ → Float
 folded q p d = sub binary64 one (mul binary64 (div binary64 q (of_int binary64 (pos d))) p)
 
--- for each divisor in turn, from 1 on
+-- that step for each divisor in turn, from p on
 abbrev pub series : Float → Float → List ℕ → Float
-series q p [] = p
-series q p (d ∷ ds) = series q (folded q p d) ds
+series q p ds = fold (folded q) p ds
 
 -- the sine and the cosine of r, whose square is q
 abbrev pub near_sine : Float → Float

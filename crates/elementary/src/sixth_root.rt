@@ -19,7 +19,7 @@ pub fn sixth_root(v: f64) -> f64
     ensures root { SixthRoot v result }
     ensures defined { result ≡ sixth_root_of v }
 {
-    if 0.0 <= v && v <= MOST {
+    if (0.0..=MOST).contains(&v) {
         least_root(scaled_up(v)) as f64 * SIXTEENTH
     } else {
         f64::NAN
@@ -33,30 +33,23 @@ fn scaled_up(v: f64) -> u64
     saturating_f64_to_u64((v * SCALE).ceil())
 }
 
-// The least number from 1 to 1024 whose sixth power is at least `need`, by halving the range.
+// The least number from 1 to 1024 whose sixth power is at least `need`, by halving the range: there is no list
+// of the powers to search.
 fn least_root(need: u64) -> u64
     requires { need ≤ 2 ^ 60 }
     ensures bounds { (1 ≤ result) × (result ≤ 1024) }
     ensures enough { need ≤ result ^ 6 }
     ensures least { (j : ℕ) → j < result → 1 ≤ j → j ^ 6 < need }
 {
-    let mut low = 1;
-    let mut high = 1024;
+    let mut low: u64 = 1;
+    let mut high: u64 = 1024;
     while low < high {
         let mid = (low + high) / 2;
-        if sixth_power(mid) < need {
+        if mid.pow(6) < need {
             low = mid + 1;
         } else {
             high = mid;
         }
     }
     low
-}
-
-fn sixth_power(k: u64) -> u64
-    requires { k ≤ 1024 }
-    ensures { result ≡ k ^ 6 }
-{
-    let cube = k * k * k;
-    cube * cube
 }

@@ -34,60 +34,61 @@ fn first_root(high: u64) -> u64
     FIRST_ROOTS[(high - TABLE_START) as usize] as u64
 }
 
-// A whole root, and what is left of its number above the root's square.
+// A whole root, and what is left of its number above the root's square: too little for a root of 1 more.
 #[derive(Clone, Copy)]
 struct Part {
     root: u64,
     rest: u64,
+    ghost whole: { rest ≤ 2 * root },
 }
 
-// The whole root of an n of 13 or 14 binary digits.
-fn first_part(n: u64) -> Part
-    requires { (2 ^ 12 ≤ n) × (n < 2 ^ 14) }
-    ensures sum { result.root * result.root + result.rest ≡ n }
-    ensures whole { result.rest ≤ 2 * result.root }
-{
-    let root = first_root(n / TABLE_STEP);
-    let square = root * root;
-    if square <= n {
-        Part {
-            root,
-            rest: n - square,
-        }
-    } else {
-        Part {
-            root: root - 1,
-            rest: n + 2 * root - 1 - square,
+impl Part {
+    // The part of the number root² + left - square, whose whole root is `root`, or one less where more
+    // is to be taken off than is left: one less has a square that is smaller by 2 * root - 1.
+    fn settled(root: u64, left: u64, square: u64) -> Part
+        requires not_too_small { left ≤ square + 2 * root }
+        requires one_too_large_at_most { square < left + 2 * root }
+        requires room { left + 2 * root < 2 ^ 64 }
+        ensures { result.root * result.root + result.rest + square ≡ root * root + left }
+    {
+        if square <= left {
+            Part {
+                root,
+                rest: left - square,
+            }
+        } else {
+            Part {
+                root: root - 1,
+                rest: left + 2 * root - 1 - square,
+            }
         }
     }
-}
 
-// The whole root of a number that goes on with two more digits in `base`. The root gets one more
-// digit: the quotient by twice the root, or one less, which is told by the digit's square.
-fn next_part(part: Part, base: u64, upper: u64, lower: u64) -> Part
-    requires whole { part.rest ≤ 2 * part.root }
-    requires small { (part.root < 2 ^ 27) × (base ≤ 2 ^ 26) }
-    requires enough { base ≤ 2 * part.root }
-    requires digits { (upper < base) × (lower < base) }
-    ensures sum { result.root * result.root + result.rest ≡ (part.root * part.root + part.rest) * (base * base) + (upper * base + lower) }
-    ensures whole { result.rest ≤ 2 * result.root }
-{
-    let twice = 2 * part.root;
-    let top = part.rest * base + upper;
-    let digit = top / twice;
-    let root = part.root * base + digit;
-    let rest = top % twice * base + lower;
-    let square = digit * digit;
-    if square <= rest {
-        Part {
-            root,
-            rest: rest - square,
-        }
-    } else {
-        Part {
-            root: root - 1,
-            rest: rest + 2 * root - 1 - square,
-        }
+    // The whole root of an n of 13 or 14 binary digits.
+    fn first(n: u64) -> Part
+        requires { (2 ^ 12 ≤ n) × (n < 2 ^ 14) }
+        ensures { result.root * result.root + result.rest ≡ n }
+    {
+        let root = first_root(n / TABLE_STEP);
+        Part::settled(root, n, root * root)
+    }
+
+    // The whole root of a number that goes on with two more digits in `base`. The root gets one more
+    // digit: the quotient by twice the root, or one less.
+    fn extended(self, base: u64, upper: u64, lower: u64) -> Part
+        requires small { (self.root < 2 ^ 27) × (base ≤ 2 ^ 26) }
+        requires enough { base ≤ 2 * self.root }
+        requires digits { (upper < base) × (lower < base) }
+        ensures { result.root * result.root + result.rest ≡ (self.root * self.root + self.rest) * (base * base) + (upper * base + lower) }
+    {
+        let twice = 2 * self.root;
+        let top = self.rest * base + upper;
+        let digit = top / twice;
+        Part::settled(
+            self.root * base + digit,
+            top % twice * base + lower,
+            digit * digit,
+        )
     }
 }
 
@@ -106,10 +107,10 @@ fn nearest_root(d: u64) -> u64
     ensures { NearestWhole (d * 2 ^ 52) result }
 {
     let high = d / (THIRD * THIRD);
-    let first = first_part(high / (SECOND * SECOND));
-    let second = next_part(first, SECOND, high / SECOND % SECOND, high % SECOND);
-    let third = next_part(second, THIRD, d / THIRD % THIRD, d % THIRD);
-    let last = next_part(third, LAST, 0, 0);
+    let first = Part::first(high / (SECOND * SECOND));
+    let second = first.extended(SECOND, high / SECOND % SECOND, high % SECOND);
+    let third = second.extended(THIRD, d / THIRD % THIRD, d % THIRD);
+    let last = third.extended(LAST, 0, 0);
     if last.root < last.rest {
         last.root + 1
     } else {
@@ -184,14 +185,12 @@ pub fn sqrt(x: f64) -> f64
     ensures nothing { x ≡ nan → result ≡ nan }
     ensures defined { result ≡ Floats.sqrt binary64 x }
 {
-    if x > 0.0 {
-        if x < f64::INFINITY {
-            positive_root(x)
-        } else {
-            x
-        }
+    if x > 0.0 && x < f64::INFINITY {
+        positive_root(x)
+    } else if x >= 0.0 {
+        x
     } else {
-        if x == 0.0 { x } else { f64::NAN }
+        f64::NAN
     }
 }
 

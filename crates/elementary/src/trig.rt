@@ -2,19 +2,22 @@
 ghost use Rattle.std.specs.Prelude.{◌≡◌};
 ghost use Rattle.std.specs.Float.{binary64};
 ghost use Rattle.std.specs.Float.Ieee.{mul};
-ghost use Rattle.elementary.specs.Angles.{folded, near_sine, near_cosine, turned, quarters, quarter as quarter_of, left_over, sin_cos, tangent, slope as slope_of, nearer as nearer_to, small_angle, first_quarter, first_half, angle};
+ghost use Rattle.elementary.specs.Angles.{one, folded, series as series_of, near_sine, near_cosine, turned, quarters, quarter as quarter_of, left_over, sin_cos, tangent, slope as slope_of, nearer as nearer_to, small_angle, first_quarter, first_half, angle};
 
-use std::f64::consts::{FRAC_PI_2, FRAC_PI_4, PI};
+use std::f64::consts::{FRAC_2_PI, FRAC_PI_2, FRAC_PI_4, PI};
 use std::num::saturating_f64_to_i64;
 
 // Larger angles are not taken: 2²⁰.
 const LARGEST: f64 = 1048576.0;
 
-// 2/π.
-const FRAC_2_PI: f64 = 0.636619772367581343075535053490057448;
-
 // What π/2 is more than the float nearest to it.
 const FRAC_PI_2_REST: f64 = 6.123233995736766e-17;
+
+// What the steps of the sine's series divide by, from the last term to the first: 14 × 15 down to 2 × 3.
+const SINE_DIVISORS: [u8; 7] = [210, 156, 110, 72, 42, 20, 6];
+
+// The same for the cosine: 15 × 16 down to 1 × 2.
+const COSINE_DIVISORS: [u8; 8] = [240, 182, 132, 90, 56, 30, 12, 2];
 
 /// The sine and the cosine of the angle `th`, in radians. Not-a-number twice unless |th| ≤ 2²⁰.
 pub fn sin_cos(th: f64) -> (f64, f64)
@@ -59,18 +62,16 @@ fn quarter(k: f64) -> u64
     saturating_f64_to_i64(k).rem_euclid(4) as u64
 }
 
-// The pair (s, c), turned by `n` quarters.
+// The pair (s, c), turned by `n` quarters. A rest by 4 stays a number: to make an enum of it takes the
+// same four cases.
 const fn by_quarter(n: u64, s: f64, c: f64) -> (f64, f64)
     ensures { result ≡ turned n s c }
 {
-    if n == 0 {
-        (s, c)
-    } else if n == 1 {
-        (c, -s)
-    } else if n == 2 {
-        (-s, -c)
-    } else {
-        (-c, s)
+    match n {
+        0 => (s, c),
+        1 => (c, -s),
+        2 => (-s, -c),
+        _ => (-c, s),
     }
 }
 
@@ -81,34 +82,25 @@ const fn step(q: f64, p: f64, d: u8) -> f64
     1.0 - (q / d as f64) * p
 }
 
+// The sum of a series, from its last term to its first: from 1 on, a step for each divisor in turn.
+fn series(q: f64, divisors: &[u8]) -> f64
+    ensures { result ≡ series_of q one divisors.now }
+{
+    divisors.iter().fold(1.0, |p, d| step(q, p, *d))
+}
+
 // The sine near 0.
-const fn near_sin(r: f64) -> f64
+fn near_sin(r: f64) -> f64
     ensures { result ≡ near_sine r }
 {
-    let q = r * r;
-    let p = step(q, 1.0, 210);
-    let p = step(q, p, 156);
-    let p = step(q, p, 110);
-    let p = step(q, p, 72);
-    let p = step(q, p, 42);
-    let p = step(q, p, 20);
-    let p = step(q, p, 6);
-    r * p
+    r * series(r * r, &SINE_DIVISORS)
 }
 
 // The cosine near 0.
-const fn near_cos(r: f64) -> f64
+fn near_cos(r: f64) -> f64
     ensures { result ≡ near_cosine r }
 {
-    let q = r * r;
-    let p = step(q, 1.0, 240);
-    let p = step(q, p, 182);
-    let p = step(q, p, 132);
-    let p = step(q, p, 90);
-    let p = step(q, p, 56);
-    let p = step(q, p, 30);
-    let p = step(q, p, 12);
-    step(q, p, 2)
+    series(r * r, &COSINE_DIVISORS)
 }
 
 /// The angle of the vector (x, y), from −π to π, in radians: not-a-number if `x` or `y` is. A zero

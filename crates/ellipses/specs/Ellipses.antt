@@ -1,6 +1,6 @@
 -- Ellipses: the map that makes one of a circle, and its parts, box and winding as computed, for all floats. Assumes nothing.
-use Rattle.std.specs.Prelude.{Bool, false, cond, ◌&&◌, ℤ, pos, Float}
-use Rattle.std.specs.Float.Ieee.{add, sub, mul, lt, le}
+use Rattle.std.specs.Prelude.{Bool, false, cond, ℤ, pos, Float}
+use Rattle.std.specs.Float.Ieee.{add, sub, mul, lt}
 use Rattle.std.specs.Float.{float_with_sign, binary64}
 use Rattle.elementary.specs.Angles.{pi}
 use Rattle.plane.specs.declared.affine.Affine.{Affine}
@@ -8,7 +8,7 @@ use Rattle.plane.specs.declared.point.Point.{Point}
 use Rattle.plane.specs.declared.rect.Rect.{Rect}
 use Rattle.plane.specs.declared.vec2.Vec2.{Vec2}
 use Rattle.plane.specs.Affines.{one, shifting, turning, stretching, product, image, det, back, root_of_squares}
-use Rattle.plane.specs.Rects.{rect}
+use Rattle.plane.specs.Rects.{rect, closed}
 use Rattle.plane.specs.Vectors.{point, vec2, dot}
 use Rattle.ellipses.specs.declared.ellipse.Ellipse.{Ellipse}
 
@@ -36,10 +36,6 @@ box_of m = about m.e m.f (root_of_squares m.a m.c) (root_of_squares m.b m.d)
 
 abbrev pub box : Ellipse → Rect
 box l = box_of l.inner
-
--- p lies in the closed box b
-abbrev pub closed : Rect → Point → Bool
-closed b p = le b.x0 p.x && (le p.x b.x1 && (le b.y0 p.y && le p.y b.y1))
 
 -- p is nearer to the origin than 1
 abbrev pub in_unit_circle : Point → Bool

@@ -2,11 +2,10 @@
 ghost use Rattle.std.specs.Prelude.{◌≡◌, pos, if◌then◌else◌};
 ghost use Rattle.plane.specs.Affines.{radii_of, tilt_of};
 ghost use Rattle.plane.specs.Winding.{Lawful, nonzero};
-ghost use Rattle.ellipses.specs.Ellipses.{ellipse, placed, center_of, area_of, about, box, closed, in_unit_circle, wind};
+ghost use Rattle.ellipses.specs.Ellipses.{ellipse, placed, center_of, area_of, about, box, in_unit_circle, wind};
 ghost use Rattle.ellipses.specs.Lengths.{length_of};
 
 use super::length::length;
-use elementary::sqrt::sqrt;
 use plane::affine::Affine;
 use plane::fault::ShapeFault;
 use plane::point::Point;
@@ -15,7 +14,7 @@ use plane::vec2::Vec2;
 use std::f64::consts::PI;
 
 /// An ellipse: what an affine map sends the circle about the origin with radius 1 to.
-#[derive(Clone, Copy)]
+#[derive(Clone, Copy, Debug, PartialEq)]
 pub struct Ellipse {
     inner: Affine,
 }
@@ -43,8 +42,7 @@ impl Ellipse {
     pub const fn affine(&self) -> Affine
         ensures { result ≡ self.now.inner }
     {
-        let Ellipse { inner } = *self;
-        inner
+        self.inner
     }
 
     /// The centre.
@@ -83,8 +81,8 @@ impl Ellipse {
         ensures { result ≡ box self.now }
     {
         let m = self.inner;
-        let range_x = sqrt(m.a * m.a + m.c * m.c);
-        let range_y = sqrt(m.b * m.b + m.d * m.d);
+        let range_x = Vec2::new(m.a, m.c).hypot();
+        let range_y = Vec2::new(m.b, m.d).hypot();
         Rect::new(m.e - range_x, m.f - range_y, m.e + range_x, m.f + range_y)
     }
 
@@ -118,19 +116,12 @@ impl Ellipse {
     fn wind(&self, pt: Point) -> i32
         ensures { result ≡ wind self.now pt }
     {
-        if in_closed(self.bounding_box(), pt) {
+        if self.bounding_box().encloses(pt) {
             in_circle(self.inner.inverse().map(pt))
         } else {
             0
         }
     }
-}
-
-// Whether `b` holds `pt`, its sides included.
-const fn in_closed(b: Rect, pt: Point) -> bool
-    ensures { result ≡ closed b pt }
-{
-    b.x0 <= pt.x && pt.x <= b.x1 && b.y0 <= pt.y && pt.y <= b.y1
 }
 
 // 1 nearer to the origin than 1, else 0.

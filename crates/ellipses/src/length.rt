@@ -16,7 +16,8 @@ const MOST_STEPS: u32 = 64;
 // 49/65536 + 441/1048576).
 const REMAINDER: f64 = 0.00101416479131503;
 
-// The length of the ellipse with these radii, and the steps that it took.
+/// The length of the ellipse with these radii, and the steps that it took. An `allowance` above 64 counts as 64; it
+/// refuses 9 STEPS where that is spent before the last turn.
 pub fn length(radii: Vec2, accuracy: f64, allowance: u32) -> Result<(f64, u32), ShapeFault>
     ensures { result ≡ length_of radii accuracy allowance }
 {

@@ -1,5 +1,7 @@
 //! An ellipse behind the interface of shapes, and its path.
 ghost use Rattle.std.specs.Prelude.{◌≡◌};
+ghost use Rattle.std.specs.Iterator.{YieldsFirst, item_count};
+ghost use Rattle.std.proofs.Common.{rules};
 ghost use Rattle.ellipses.specs.Ellipses.{box as ellipse_box, wind as ellipse_wind};
 ghost use Rattle.ellipses.specs.Ovals.{whole_arc, drawn as ellipse_drawn, rest as path_rest};
 ghost use Rattle.ellipses.specs.Oval.{ellipse_lawful, ellipse_formed};
@@ -11,10 +13,10 @@ use plane::cursor::Cursor;
 use plane::fault::ShapeFault;
 use plane::point::Point;
 use plane::rect::Rect;
-use plane::shape::{Shape, is_tolerance};
+use plane::shape::{Shape, check_drawable};
 use std::f64::consts::PI;
 
-// Where a cursor on an ellipse's path stands.
+// Where a cursor on an ellipse's path stands: a stage of its own, as every cursor here has.
 #[derive(Clone, Copy)]
 enum Stage {
     Start,
@@ -29,8 +31,12 @@ pub struct EllipsePath {
     curves: ArcPath,
 }
 
-impl Cursor for EllipsePath {
-    ghost rest = { path_rest };
+impl Iterator for EllipsePath {
+    type Item = PathEl;
+
+    ghost next_gives = { YieldsFirst path_rest };
+
+    ghost remaining = { item_count path_rest };
 
     fn next(&mut self) -> Option<PathEl> {
         match self.stage {
@@ -41,6 +47,16 @@ impl Cursor for EllipsePath {
             Stage::Curves => self.curves.next(),
         }
     }
+}
+
+impl Cursor for EllipsePath {
+    ghost rest = { path_rest };
+
+    ghost ready = { λ c. tt };
+
+    ghost steps = { λ c d el s. s };
+
+    ghost ends = { Prim.search rules };
 }
 
 impl Shape for Ellipse {
@@ -69,12 +85,7 @@ impl Shape for Ellipse {
     }
 
     fn path_elements(&self, tolerance: f64) -> Result<EllipsePath, ShapeFault> {
-        if !is_tolerance(tolerance) {
-            return Err(ShapeFault::Tolerance);
-        }
-        if !self.affine().is_finite() {
-            return Err(ShapeFault::NotFinite);
-        }
+        check_drawable(tolerance, self.affine().is_finite())?;
         let arc = whole(self);
         let curves = arc.append_iter(tolerance)?;
         Ok(EllipsePath {

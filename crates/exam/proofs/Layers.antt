@@ -1,7 +1,8 @@
 -- The uppermost mark that holds a point: the function answers what the relation says, and nothing else does. Assumes nothing.
-use Rattle.std.proofs.Common.{◌≡◌, ℕ, zero, suc, ◌+◌, ◌<◌, ◌≤◌, Bool, true, false, List, [], ◌∷◌, length, get_or, ℤ, pos, negsuc, Some, None, Option, refl, ap, ◌∙◌, subst, ⊎_elim, add-one, arith}
-use Rattle.std.specs.List.{AllWithin}
-use Rattle.std.proofs.lemmas.List.{get_or_default}
+use Rattle.std.proofs.Common.{◌≡◌, ℕ, zero, suc, ◌+◌, ◌<◌, ◌≤◌, Bool, true, false, List, [], ◌∷◌, length, get_or, ℤ, pos, negsuc, ◌-◌, Some, None, Option, MatchOption, IfSome, IsTrue, Bor, sym, refl, ap, ◌∙◌, ⊎_elim, add-one, arith}
+use Rattle.std.specs.Iterator.Runs.{Run, ItemsMapToReversed, AllItemsGive, IsFirstToGive}
+use denote.Param.Members.{Mut, Called}
+use Rattle.plane.proofs.Searched.{last_at, after_last, none_from_back}
 use Rattle.std.proofs.str.Laws.{order}
 use Rattle.plane.specs.declared.point.Point.{Point}
 use Rattle.plane.specs.Winding.{nonzero}
@@ -55,17 +56,19 @@ one (m ∷ ms) p (Some i) (Some j) h g = ap Some (⊎_elim
 pub only : (ms : List Mark) (p : Point) (o : Option ℕ) → Uppermost ms p o → o ≡ topmost ms p
 only ms p o h = one ms p o (topmost ms p) h (means ms p)
 
--- ---- a pass from above: the marks from n on were passed, and the one below them, at i, is next
-module _ (ms : List Mark) (p : Point) (i n : ℕ) (d : Mark) where
-  pub found : true ≡ nonzero (wind (get_or ms i d) p) → i < length ms → n ≤ i + 1 → AllWithin (Misses p) ms n (length ms) → Uppermost ms p (Some i)
-  found t lt le h = (
-    lt,
-    λ e. holds (wind (get_or ms i e) p) (t ∙ ap (λ m. nonzero (wind m p)) (get_or_default ms i d e lt)),
-    λ k e low high. h k e (omega arith) high,
-  )
+-- ---- a search from above
+abbrev holding : Point → Mark → Bool
+holding p m = nonzero (wind m p)
 
-  pub passed : false ≡ nonzero (wind (get_or ms i d) p) → i < length ms → n ≤ i + 1 → AllWithin (Misses p) ms n (length ms) → AllWithin (Misses p) ms i (length ms)
-  passed t lt le h = λ k e low high. ⊎_elim
-      (λ above. h k e (omega arith) high)
-      (λ here. let same : i ≡ k = omega arith in subst (λ (j : ℕ). Misses p (get_or ms j e)) same (misses (wind (get_or ms i e) p) (t ∙ ap (λ m. nonzero (wind m p)) (get_or_default ms i d e lt))))
-      (order i k)
+module _ {S F : Type 0} {steps : S → Option (Bor Mark) → S → Type 0} (g : Mut F (Bor Mark × Unit {0}) Bool) (f : F) (p : Point)
+    (answers : (x : Bor Mark) (b : Bool) (f' : F) → Called g f (x, tt) b f' → (f' ≡ f) × (b ≡ holding p x.now))
+    (ms : List Mark) (u : Run steps) (back : ItemsMapToReversed u (λ y. y.now) ms) where
+  pub uppermost_found : (r : Option ℕ)
+      → MatchOption r (IsTrue u.whole × AllItemsGive u g f false) (λ i. (i + u.len ≡ length ms) × IsFirstToGive u g f true false (length ms - 1 - i))
+      → IfSome r (λ i. i < length ms) → Uppermost ms p r
+  uppermost_found None h l = λ j d low high. misses _ (sym (none_from_back g f (holding p) answers ms u back j h.0 h.1 high d))
+  uppermost_found (Some i) h l = (
+    l,
+    λ d. holds _ (sym (last_at g f (holding p) answers ms u back i h.0 h.1 l d)),
+    λ j d low high. misses _ (sym (after_last g f (holding p) answers ms u back i j h.0 h.1 (omega arith) high d)),
+  )

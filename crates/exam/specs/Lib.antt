@@ -1,4 +1,3 @@
-pub mod Refusals
 pub mod Uppermost
 pub mod Verdicts
 pub mod Sittings

@@ -2,7 +2,7 @@
 use Rattle.std.specs.Prelude.{◌≡◌, ℕ, ◌+◌, ◌-◌, ◌^◌, ◌≤◌, min, cond, List, [], ◌∷◌, ◌++◌, length, Ok, Err, vec_items, vec_len, vec_capacity, Result}
 use Rattle.std.specs.declared.alloc.AllocError.{AllocError}
 use Rattle.marks.specs.declared.mark.Mark.{Mark}
-use Rattle.exam.specs.declared.refusal.Refusal.{Refusal}
+use Rattle.plane.specs.declared.fault.PageFault.{PageFault}
 use Rattle.exam.specs.declared.points.Verdict.{Verdict}
 use Rattle.exam.specs.declared.sitting.Tally.{Tally}
 use Rattle.exam.specs.declared.sitting.Sitting.{Sitting}
@@ -26,7 +26,7 @@ abbrev pub one_more : ℕ → ℕ
 one_more n = min (n + 1) (2 ^ 64 - 1)
 
 -- the tally with one answer more: just one of its counts grows
-abbrev pub counted : Tally → Result Verdict Refusal → Tally
+abbrev pub counted : Tally → Result Verdict PageFault → Tally
 counted t (Ok v) =
     cond v.right
     (record { right = one_more t.right; wrong = t.wrong; refused = t.refused })

@@ -3,7 +3,6 @@
 #![tactic(auto)]
 
 pub mod points;
-pub mod refusal;
 pub mod sitting;
 #[cfg(test)]
 mod tests;

@@ -4,8 +4,8 @@ ghost use Rattle.exam.specs.Verdicts.{Assessed};
 ghost use Rattle.exam.specs.Sittings.{laid, none_yet, counted, PutOnTop};
 
 use super::points::{SetPoint, Verdict, assess};
-use super::refusal::Refusal;
 use marks::mark::Mark;
+use plane::fault::PageFault;
 use std::alloc::{AllocError, Global};
 
 /// How the set points came out. Each count stops at 2^64 - 1.
@@ -21,7 +21,7 @@ pub struct Tally {
 
 impl Tally {
     // This tally with one answer more, counted as right, wrong or refused.
-    fn with(self, answer: &Result<Verdict, Refusal>) -> Tally
+    fn with(self, answer: &Result<Verdict, PageFault>) -> Tally
         ensures { result ≡ counted self answer.now }
     {
         match answer {
@@ -76,7 +76,7 @@ impl Sitting {
 
     /// Answers what `assess` answers about `point` over the marks as they are, and counts the answer. It refuses a
     /// point with a coordinate off the grid, and then one with a coordinate off the page.
-    pub fn set(&mut self, point: SetPoint) -> Result<Verdict, Refusal>
+    pub fn set(&mut self, point: SetPoint) -> Result<Verdict, PageFault>
         ensures answer { Assessed (laid self.old) point result }
         ensures kept { laid self.new ≡ laid self.old }
         ensures counts { self.new.tally ≡ counted self.old.tally result }

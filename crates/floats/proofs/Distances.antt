@@ -57,7 +57,7 @@ over_all nan p q = p
 over_all (inf t) p q = p
 over_all (fin t m e) p q = q
 
-neg_finite : (x : Float) → T (finite x) → T (finite (neg x))
+pub neg_finite : (x : Float) → T (finite x) → T (finite (neg x))
 unfolding neg
 neg_finite nan p = p
 neg_finite (inf t) p = p

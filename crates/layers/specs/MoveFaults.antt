@@ -1,5 +1,7 @@
 -- The refusals of a move: for every case its number and its name. Assumes nothing.
 use Rattle.std.specs.Prelude.{ℕ, List, codes}
+use Rattle.plane.specs.declared.fault.PageFault.{PageFault}
+use Rattle.plane.specs.declared.fault.PageFault.TheVariants as Offsets
 use Rattle.layers.specs.declared.fault.MoveFault.{MoveFault}
 use Rattle.layers.specs.declared.fault.MoveFault.TheVariants.{NotATurn, OffGrid, OffPage}
 
@@ -12,3 +14,8 @@ abbrev pub name_of : MoveFault → List ℕ
 name_of NotATurn = codes "NOT A TURN"
 name_of OffGrid = codes "OFF GRID"
 name_of OffPage = codes "OFF PAGE"
+
+-- an offset's fault, as a point's
+abbrev pub of_offset : PageFault → MoveFault
+of_offset Offsets.OffGrid = OffGrid
+of_offset Offsets.OffPage = OffPage

@@ -1,5 +1,6 @@
 //! Shapes that cover one another.
 ghost use Rattle.std.specs.Prelude.{◌≡◌};
+ghost use Rattle.std.specs.Iterator.{YieldsFirst, item_count};
 ghost use Rattle.layers.specs.Coverings.{covered_wind, covered_box, covered_drawn, rest_of};
 ghost use Rattle.layers.specs.Covered.{covered_small, covered_boxed};
 ghost use Rattle.layers.specs.Formed.{covered_formed};
@@ -12,6 +13,7 @@ use plane::fault::ShapeFault;
 use plane::point::Point;
 use plane::rect::Rect;
 use plane::shape::Shape;
+use std::marker::PhantomData;
 
 /// An upper shape over a lower one, of any kinds.
 #[derive(Clone, Copy)]
@@ -43,7 +45,7 @@ impl<U: Shape, L: Shape> Covering<U, L> {
     }
 }
 
-/// Which of two paths a cursor is on.
+/// Which of two paths a cursor is on: a stage of its own, as every cursor here has.
 #[derive(Clone, Copy)]
 pub enum Stage {
     /// The upper shape's, with the lower's to follow.
@@ -58,10 +60,16 @@ pub struct CoveringPath<A, B> {
     stage: Stage,
     upper: A,
     lower: B,
+    // As in the cursor of a placing.
+    gives: PhantomData<PathEl>,
 }
 
-impl<A: Cursor, B: Cursor> Cursor for CoveringPath<A, B> {
-    ghost rest = { λ c. rest_of c.stage (A.Cursor.rest c.upper) (B.Cursor.rest c.lower) };
+impl<A: Cursor, B: Cursor> Iterator for CoveringPath<A, B> {
+    type Item = PathEl;
+
+    ghost next_gives = { YieldsFirst (λ c. rest_of c.stage (A.Cursor.rest c.upper) (B.Cursor.rest c.lower)) };
+
+    ghost remaining = { item_count (λ c. rest_of c.stage (A.Cursor.rest c.upper) (B.Cursor.rest c.lower)) };
 
     fn next(&mut self) -> Option<PathEl> {
         if let Stage::Upper = self.stage {
@@ -72,6 +80,16 @@ impl<A: Cursor, B: Cursor> Cursor for CoveringPath<A, B> {
         }
         self.lower.next()
     }
+}
+
+impl<A: Cursor, B: Cursor> Cursor for CoveringPath<A, B> {
+    ghost rest = { λ c. rest_of c.stage (A.Cursor.rest c.upper) (B.Cursor.rest c.lower) };
+
+    ghost ready = { λ c. tt };
+
+    ghost steps = { λ c d el s. s };
+
+    ghost ends = { Prim.search rules };
 }
 
 impl<U: Shape, L: Shape> Shape for Covering<U, L> {
@@ -115,6 +133,7 @@ impl<U: Shape, L: Shape> Shape for Covering<U, L> {
             stage: Stage::Upper,
             upper,
             lower,
+            gives: PhantomData,
         })
     }
 }

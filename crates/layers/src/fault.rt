@@ -1,6 +1,8 @@
 //! Why numbers make no move.
 ghost use Rattle.std.specs.Prelude.{◌≡◌};
-ghost use Rattle.layers.specs.MoveFaults.{number_of, name_of};
+ghost use Rattle.layers.specs.MoveFaults.{number_of, name_of, of_offset};
+
+use plane::fault::PageFault;
 
 /// Why an affine map is no move. The cases stand in the order in which they are tried.
 #[derive(Clone, Copy, Debug, PartialEq, Eq)]
@@ -33,6 +35,18 @@ impl MoveFault {
             MoveFault::NotATurn => "NOT A TURN",
             MoveFault::OffGrid => "OFF GRID",
             MoveFault::OffPage => "OFF PAGE",
+        }
+    }
+}
+
+// An offset is refused as a point of the page is.
+impl From<PageFault> for MoveFault {
+    ghost from_gives = { λ f r. r ≡ of_offset f };
+
+    fn from(fault: PageFault) -> MoveFault {
+        match fault {
+            PageFault::OffGrid => MoveFault::OffGrid,
+            PageFault::OffPage => MoveFault::OffPage,
         }
     }
 }

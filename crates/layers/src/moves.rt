@@ -3,11 +3,11 @@ ghost use Rattle.std.specs.Prelude.{◌≡◌, T, ℤ, IfOk, IfErr, Some, None};
 ghost use Rattle.floats.specs.Value.{Val};
 ghost use Rattle.plane.specs.Affines.{product, image, det};
 ghost use Rattle.plane.specs.Points.{GridPoint};
-ghost use Rattle.layers.specs.Moves.{is_turn, grid_offset, page_offset, is_move, refusal, unmoved, read_as, unit, units_and_zeros, sign as sign_of, taken_back, Composes};
+ghost use Rattle.layers.specs.Moves.{is_turn, page_offset, is_move, refusal, unmoved, read_as, unit, units_and_zeros, sign as sign_of, taken_back, Composes};
 ghost use Rattle.layers.specs.declared.fault.MoveFault.TheVariants.{OffPage};
 
 use super::fault::MoveFault;
-use floats::page::{is_grid, on_page};
+use floats::page::on_page;
 use plane::affine::Affine;
 use plane::point::Point;
 
@@ -30,12 +30,7 @@ impl Move {
         if !turns(map) {
             return Err(MoveFault::NotATurn);
         }
-        if !(is_grid(map.e) && is_grid(map.f)) {
-            return Err(MoveFault::OffGrid);
-        }
-        if !has_page_offset(map) {
-            return Err(MoveFault::OffPage);
-        }
+        Point::new(map.e, map.f).check_page()?;
         Ok(Move { map })
     }
 
@@ -53,10 +48,7 @@ impl Move {
     pub fn read(map: Affine) -> Move
         ensures { result.map ≡ read_as map }
     {
-        match Move::new(map) {
-            Ok(m) => m,
-            Err(_) => Move::unmoved(),
-        }
+        Move::new(map).unwrap_or(Move::unmoved())
     }
 
     /// The move's numbers, as they were given.
@@ -132,8 +124,8 @@ fn is_unit(x: f64) -> bool
     x == 1.0 || x == -1.0
 }
 
-// Whether the offset is on the page.
-fn has_page_offset(m: Affine) -> bool
+/// Whether the offset of `m` is on the page, as that of each move is.
+pub fn has_page_offset(m: Affine) -> bool
     ensures { result ≡ page_offset m }
 {
     on_page(m.e) && on_page(m.f)

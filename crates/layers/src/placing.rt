@@ -1,5 +1,7 @@
 //! Shapes that a move has placed.
 ghost use Rattle.std.specs.Prelude.{◌≡◌, map};
+ghost use Rattle.std.specs.Iterator.{YieldsFirst, item_count};
+ghost use Rattle.std.proofs.Common.{rules};
 ghost use Rattle.plane.specs.Affines.{image_el};
 ghost use Rattle.layers.specs.Moves.{read_as};
 ghost use Rattle.layers.specs.Placings.{no_box, placed_wind, placed_box, placed_drawn};
@@ -17,6 +19,7 @@ use plane::fault::ShapeFault;
 use plane::point::Point;
 use plane::rect::Rect;
 use plane::shape::Shape;
+use std::marker::PhantomData;
 
 /// A shape of any kind, placed by a move. The move lies here as plain numbers, so that placings may lie in tables.
 #[derive(Clone, Copy)]
@@ -64,17 +67,30 @@ impl<S: Shape> Placing<S> {
 pub struct PlacingPath<C> {
     map: Affine,
     below: C,
+    // The check of a function over nested layers knows the types in their fields alone, and needs what the cursor gives.
+    gives: PhantomData<PathEl>,
+}
+
+impl<C: Cursor> Iterator for PlacingPath<C> {
+    type Item = PathEl;
+
+    ghost next_gives = { YieldsFirst (λ c. map (image_el c.map) (C.Cursor.rest c.below)) };
+
+    ghost remaining = { item_count (λ c. map (image_el c.map) (C.Cursor.rest c.below)) };
+
+    fn next(&mut self) -> Option<PathEl> {
+        self.below.next().map(|el| self.map.map_el(el))
+    }
 }
 
 impl<C: Cursor> Cursor for PlacingPath<C> {
     ghost rest = { λ c. map (image_el c.map) (C.Cursor.rest c.below) };
 
-    fn next(&mut self) -> Option<PathEl> {
-        match self.below.next() {
-            Some(el) => Some(self.map.map_el(el)),
-            None => None,
-        }
-    }
+    ghost ready = { λ c. tt };
+
+    ghost steps = { λ c d el s. s };
+
+    ghost ends = { Prim.search rules };
 }
 
 impl<S: Shape> Shape for Placing<S> {
@@ -118,6 +134,7 @@ impl<S: Shape> Shape for Placing<S> {
         Ok(PlacingPath {
             map: self.place().numbers(),
             below,
+            gives: PhantomData,
         })
     }
 }

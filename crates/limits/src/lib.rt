@@ -157,11 +157,15 @@ mod tests {
 
     #[test]
     fn boxes_and_areas(rt: HostRuntime) {
-        let b = Rect::new(2.0, 1.0, 0.0, 3.0).bounding_box();
-        assert!(rt; b.x0 == 0.0 && b.y0 == 1.0 && b.x1 == 2.0 && b.y1 == 3.0);
+        assert_eq!(rt;
+            Rect::new(2.0, 1.0, 0.0, 3.0).bounding_box(),
+            Rect::new(0.0, 1.0, 2.0, 3.0)
+        );
         assert!(rt; Rect::new(2.0, 1.0, 0.0, 3.0).area() == -4.0);
-        let c = Circle::new(Point::new(1.0, 2.0), -0.5).bounding_box();
-        assert!(rt; c.x0 == 0.5 && c.y0 == 1.5 && c.x1 == 1.5 && c.y1 == 2.5);
+        assert_eq!(rt;
+            Circle::new(Point::new(1.0, 2.0), -0.5).bounding_box(),
+            Rect::new(0.5, 1.5, 1.5, 2.5)
+        );
         assert!(rt; Circle::new(Point::new(1.0, 2.0), 2.0).area() == 4.0 * std::f64::consts::PI);
     }
 }

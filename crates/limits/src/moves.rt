@@ -50,17 +50,13 @@ fn turn(n: usize) -> Result<Move, Fail> {
     }
 }
 
-fn turn_alike(m: Affine, n: Affine) -> bool {
-    m.a == n.a && m.b == n.b && m.c == n.c && m.d == n.d
-}
-
 #[test]
 fn products_of_turns(rt: HostRuntime) -> Result<(), Fail> {
-    for n in 0..8usize {
-        for m in 0..8usize {
+    for (n, row) in PRODUCTS.iter().enumerate() {
+        for (m, &which) in row.iter().enumerate() {
             let product = turn(n)?.mul(turn(m)?)?;
-            let expected = turn(PRODUCTS[n][m])?;
-            assert!(rt; turn_alike(product.numbers(), expected.numbers()));
+            let expected = turn(which)?;
+            assert_eq!(rt; product.numbers(), expected.numbers());
             assert_eq!(rt; product.sign(), if (n < 4) == (m < 4) { 1 } else { -1 });
         }
     }

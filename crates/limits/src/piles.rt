@@ -4,7 +4,6 @@ use layers::moves::Move;
 use layers::placing::Placing;
 use plane::affine::Affine;
 use plane::bezpath::PathEl;
-use plane::cursor::Cursor;
 use plane::point::Point;
 use plane::rect::Rect;
 use plane::shape::Shape;
@@ -43,23 +42,13 @@ fn pile() -> Result<Placing<Covering<Placing<Rect>, Rect>>, Fail> {
     Ok(Placing::new(turn, Covering::new(upper, lower)))
 }
 
-fn alike(el: PathEl, other: PathEl) -> bool {
-    match (el, other) {
-        (PathEl::MoveTo(p), PathEl::MoveTo(q)) => p.x == q.x && p.y == q.y,
-        (PathEl::LineTo(p), PathEl::LineTo(q)) => p.x == q.x && p.y == q.y,
-        (PathEl::ClosePath, PathEl::ClosePath) => true,
-        _ => false,
-    }
-}
-
 #[test]
 fn windings_of_a_pile(rt: HostRuntime) -> Result<(), Fail> {
     let pile = pile()?;
     for (x, y, winding) in WINDINGS {
         assert_eq!(rt; pile.winding(Point::new(x, y)), winding);
     }
-    let b = pile.bounding_box();
-    assert!(rt; b.x0 == 6.0 && b.y0 == 0.0 && b.x1 == 8.0 && b.y1 == 3.0);
+    assert_eq!(rt; pile.bounding_box(), Rect::new(6.0, 0.0, 8.0, 3.0));
     Ok(())
 }
 
@@ -67,12 +56,9 @@ fn windings_of_a_pile(rt: HostRuntime) -> Result<(), Fail> {
 fn path_of_a_pile(rt: HostRuntime) -> Result<(), Fail> {
     let mut path = pile()?.path_elements(1.0)?;
     for expected in PATH {
-        match path.next() {
-            Some(el) => assert!(rt; alike(el, expected)),
-            None => return Err(Fail::new("the path is too short")),
-        }
+        assert_eq!(rt; path.next(), Some(expected));
     }
-    assert!(rt; path.next().is_none());
+    assert_eq!(rt; path.next(), None);
     Ok(())
 }
 

@@ -1,6 +1,6 @@
 -- The text of an answer. Assumes nothing.
 use Rattle.std.specs.Prelude.{ℕ, cond, List, ◌++◌, Some, None, Ok, Err, codes, decimal, Option}
-use Rattle.exam.specs.Refusals.{number_of, name_of}
+use Rattle.plane.specs.Faults.{page_text_of}
 use Rattle.marking.specs.declared.paper.Answer.{Answer}
 use Rattle.marking.specs.declared.paper.Answer.TheVariants.{Position, Point}
 
@@ -12,4 +12,4 @@ top_of None = codes "none"
 abbrev pub text_of : Answer → List ℕ
 text_of (Position i) = codes "position " ++ decimal i
 text_of (Point (Ok v)) = codes "top " ++ (top_of v.top ++ (codes ": " ++ cond v.right (codes "right") (codes "wrong")))
-text_of (Point (Err e)) = codes "refused " ++ (decimal (number_of e) ++ (codes " " ++ name_of e))
+text_of (Point (Err e)) = codes "refused " ++ page_text_of e

@@ -1,5 +1,5 @@
 -- What an order does to a sitting, and what it is answered; and what a line does to a paper. Assumes nothing.
-use Rattle.std.specs.Prelude.{◌≡◌, ◌⊎◌, Ok, Err, Result}
+use Rattle.std.specs.Prelude.{◌≡◌, ◌⊎◌, ℕ, List, Ok, Err, Result}
 use Rattle.std.specs.declared.alloc.AllocError.{AllocError}
 use Rattle.exam.specs.declared.sitting.Sitting.{Sitting}
 use Rattle.exam.specs.Verdicts.{Assessed}
@@ -26,3 +26,8 @@ abbrev pub Taken : Paper → Paper → Type 0
 Taken old new =
     ((new.sitting ≡ old.sitting) × ((new.unreadable ≡ old.unreadable) ⊎ (new.unreadable ≡ one_more old.unreadable)))
     ⊎ ((o : Order) × (r : Result Answer AllocError) × CarriedOut old.sitting o new.sitting r × (new.unreadable ≡ old.unreadable))
+
+-- a line more is counted, as long as it fits, and is taken
+pub record TakesLine (old : Paper) (line : List ℕ) (new : Paper) : Type 0 where
+  pub lines : new.lines ≡ one_more old.lines
+  pub taken : Taken old new

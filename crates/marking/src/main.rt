@@ -5,20 +5,10 @@
 mod paper;
 mod read;
 
+use cases::lines::run;
 use paper::Paper;
-use std::io::{BufRead, BufReader, BufWriter, Write};
 
 fn main(rt: HostRuntime) -> anyhow::Result<()> {
-    mark(&rt)
-}
-
-fn mark(rt: &HostRuntime) -> anyhow::Result<()> {
-    let mut paper = Paper::new(rt.alloc());
-    let mut out = BufWriter::new(rt.alloc(), rt.stdout())?;
-    for line in BufReader::new(rt.alloc(), rt.stdin())?.split(rt.alloc(), b'\n') {
-        paper.take(line?.as_slice(), &mut out)?;
-    }
-    paper.sum_up(&mut out)?;
-    out.flush()?;
+    run(Paper::new(rt.alloc()), &rt)?;
     Ok(())
 }

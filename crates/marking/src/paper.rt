@@ -2,12 +2,13 @@
 ghost use Rattle.std.specs.Prelude.{◌≡◌, [], Some};
 ghost use Rattle.exam.specs.Sittings.{laid, none_yet, one_more};
 ghost use Rattle.marking.specs.Answers.{text_of};
-ghost use Rattle.marking.specs.Orders.{CarriedOut, Taken};
+ghost use Rattle.marking.specs.Orders.{CarriedOut, TakesLine};
 
 use super::read::{Order, Unreadable, order_in, read};
+use cases::lines::Taker;
 use exam::points::Verdict;
-use exam::refusal::Refusal;
 use exam::sitting::{Sitting, Tally};
+use plane::fault::PageFault;
 use std::alloc::{AllocError, Global};
 use std::io::Write;
 use std::{fmt, io};
@@ -18,7 +19,7 @@ enum Answer {
     /// The position of a mark that was laid.
     Position(usize),
     /// What was found at a set point, or why it was refused.
-    Point(Result<Verdict, Refusal>),
+    Point(Result<Verdict, PageFault>),
 }
 
 impl fmt::Display for Answer {
@@ -34,11 +35,7 @@ impl fmt::Display for Answer {
                     None => write!(f, "top none: {mark}"),
                 }
             }
-            Answer::Point(Err(refusal)) => {
-                let number = refusal.number();
-                let name = refusal.name();
-                write!(f, "refused {number} {name}")
-            }
+            Answer::Point(Err(fault)) => write!(f, "refused {fault}"),
         }
     }
 }
@@ -64,11 +61,23 @@ impl Paper {
         }
     }
 
-    /// Takes the next line: carries out its order, if it has one, and writes the answer, or why it cannot be read.
-    pub fn take(&mut self, line: &[u8], out: &mut impl Write) -> io::Result<()>
-        ensures lines { self.new.lines ≡ one_more self.old.lines }
-        ensures taken { Taken self.old self.new }
+    // Counts a line that cannot be read, and says why.
+    fn pass_over(&mut self, why: Unreadable<'_>, out: &mut impl Write) -> io::Result<()>
+        ensures counts { self.new.unreadable ≡ one_more self.old.unreadable }
+        ensures lines { self.new.lines ≡ self.old.lines }
+        ensures sitting { self.new.sitting ≡ self.old.sitting }
     {
+        self.unreadable = self.unreadable.saturating_add(1);
+        let number = self.lines;
+        writeln!(out, "{number} unreadable: {why}")
+    }
+}
+
+impl Taker for Paper {
+    ghost takes = { TakesLine };
+
+    // Carries out the line's order, if it has one, and writes the answer, or why it cannot be read.
+    fn take(&mut self, line: &[u8], out: &mut impl Write) -> io::Result<()> {
         self.lines = self.lines.saturating_add(1);
         let number = self.lines;
         match order_in(line) {
@@ -84,20 +93,9 @@ impl Paper {
         }
     }
 
-    // Counts a line that cannot be read, and says why.
-    fn pass_over(&mut self, why: Unreadable<'_>, out: &mut impl Write) -> io::Result<()>
-        ensures counts { self.new.unreadable ≡ one_more self.old.unreadable }
-        ensures lines { self.new.lines ≡ self.old.lines }
-        ensures sitting { self.new.sitting ≡ self.old.sitting }
-    {
-        self.unreadable = self.unreadable.saturating_add(1);
-        let number = self.lines;
-        writeln!(out, "{number} unreadable: {why}")
-    }
-
-    /// Writes the count: of marks, of set points, of those that were refused and of lines that cannot be read, and
-    /// then how many points were right.
-    pub fn sum_up(&self, out: &mut impl Write) -> io::Result<()> {
+    // The count of marks, of set points, of those that were refused and of lines that cannot be read, and then how many
+    // points were right.
+    fn sum_up(&self, out: &mut impl Write) -> io::Result<()> {
         let marks = self.sitting.count();
         let Tally {
             right,

@@ -3,7 +3,7 @@ ghost use Rattle.std.specs.Prelude.{◌≡◌, is_ok, IfErr, Some};
 ghost use Rattle.std.specs.Float.Parse.{is_float_text};
 ghost use Rattle.marking.specs.Reasons.{reason_of};
 
-use exam::points::{Key, SetPoint};
+use exam::points::SetPoint;
 use marks::mark::Mark;
 use plane::point::Point;
 use plane::rect::Rect;
@@ -62,13 +62,9 @@ impl fmt::Display for Unreadable<'_> {
 
 /// What a line has before its comment, without outer blanks.
 pub fn order_in(line: &[u8]) -> Result<&str, Unreadable<'_>> {
-    let Ok(text) = from_utf8(line) else {
-        return Err(Unreadable::NoText);
-    };
-    match text.split_once('#') {
-        Some((order, _)) => Ok(order.trim()),
-        None => Ok(text.trim()),
-    }
+    let text = from_utf8(line).map_err(|_| Unreadable::NoText)?;
+    let order = text.split_once('#').map_or(text, |(order, _)| order);
+    Ok(order.trim())
 }
 
 /// Reads an order: its first word says which, and the others are its numbers and its key.
@@ -108,15 +104,13 @@ fn read_triangle(words: SplitWhitespace<'_>) -> Result<Mark, Unreadable<'_>> {
 }
 
 // Just `N` numbers, one to a word.
-fn numbers<'a, const N: usize>(words: SplitWhitespace<'a>) -> Result<[f64; N], Unreadable<'a>> {
+fn numbers<'a, const N: usize>(mut words: SplitWhitespace<'a>) -> Result<[f64; N], Unreadable<'a>> {
     let mut values = [0.0; N];
-    let mut given = 0usize;
-    for word in words {
-        if given < N {
-            values[given] = number(word)?;
-        }
-        given = given.saturating_add(1);
+    for (given, value) in values.iter_mut().enumerate() {
+        let word = words.next().ok_or(Unreadable::Count { wanted: N, given })?;
+        *value = number(word)?;
     }
+    let given = words.fold(N, |given, _| given.saturating_add(1));
     if given == N {
         Ok(values)
     } else {
@@ -129,38 +123,27 @@ fn number(word: &str) -> Result<f64, Unreadable<'_>>
     ensures test { is_ok result ≡ is_float_text word.now }
     ensures why { IfErr result (λ e. e ≡ Unreadable.NoNumber word.entry) }
 {
-    match word.parse() {
-        Ok(value) => Ok(value),
-        Err(_) => Err(Unreadable::NoNumber(word)),
-    }
+    word.parse().map_err(|_| Unreadable::NoNumber(word))
 }
 
 // A point's coordinates, and its key.
 fn read_point(mut words: SplitWhitespace<'_>) -> Result<SetPoint, Unreadable<'_>> {
-    let Some(x) = words.next() else {
-        return Err(Unreadable::Count {
-            wanted: 2,
-            given: 0,
-        });
-    };
-    let Some(y) = words.next() else {
-        return Err(Unreadable::Count {
-            wanted: 2,
-            given: 1,
-        });
-    };
+    let missing = |given| Unreadable::Count { wanted: 2, given };
+    let x = words.next().ok_or(missing(0))?;
+    let y = words.next().ok_or(missing(1))?;
     let at = Point::new(number(x)?, number(y)?);
     let key = read_key(words)?;
     Ok(SetPoint { at, key })
 }
 
-fn read_key(mut words: SplitWhitespace<'_>) -> Result<Key, Unreadable<'_>> {
+// The position of the mark that should be uppermost, or nothing.
+fn read_key(mut words: SplitWhitespace<'_>) -> Result<Option<usize>, Unreadable<'_>> {
     match (words.next(), words.next(), words.next()) {
-        (Some("outside"), None, None) => Ok(Key::Outside),
-        (Some("within"), Some(word), None) => match word.parse() {
-            Ok(position) => Ok(Key::Within(position)),
-            Err(_) => Err(Unreadable::NoPosition(word)),
-        },
+        (Some("outside"), None, None) => Ok(None),
+        (Some("within"), Some(word), None) => word
+            .parse()
+            .map(Some)
+            .map_err(|_| Unreadable::NoPosition(word)),
         _ => Err(Unreadable::NoKey),
     }
 }

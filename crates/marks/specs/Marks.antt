@@ -4,6 +4,7 @@ use Rattle.plane.specs.declared.point.Point.{Point}
 use Rattle.plane.specs.declared.rect.Rect.{Rect as Rectangle}
 use Rattle.plane.specs.declared.bezpath.PathEl.{PathEl}
 use Rattle.plane.specs.Paths.{Drawn}
+use Rattle.plane.specs.Outlines as Outlines
 use Rattle.plane.specs.Rects as Rects
 use Rattle.shapes.specs.Circles as Circles
 use Rattle.shapes.specs.Triangles as Triangles
@@ -29,6 +30,6 @@ drawn (Triangle s) = Triangles.drawn s
 
 -- what a cursor has still to give
 abbrev pub rest : MarkPath → List PathEl
-rest (On.Rect c) = Rects.rest c
+rest (On.Rect c) = Outlines.rest c
 rest (On.Circle c) = Circles.rest c
-rest (On.Triangle c) = Triangles.rest c
+rest (On.Triangle c) = Outlines.rest c

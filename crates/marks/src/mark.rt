@@ -1,21 +1,24 @@
 //! A mark on the page: any one of the shapes.
 ghost use Rattle.std.specs.Prelude.{◌≡◌};
+ghost use Rattle.std.specs.Iterator.{YieldsFirst, item_count};
+ghost use Rattle.std.proofs.Common.{rules};
 ghost use Rattle.plane.specs.Winding.{nonzero};
 ghost use Rattle.marks.specs.Marks.{wind};
 ghost use Rattle.marks.specs.Marks.{wind as mark_wind, box as mark_box, drawn as mark_drawn, rest as path_rest};
 ghost use Rattle.marks.specs.Lawful.{mark_small, mark_same, mark_boxed, mark_formed};
 
 use plane::bezpath::PathEl;
+use plane::closed_path::ClosedPath;
 use plane::cursor::Cursor;
 use plane::fault::ShapeFault;
 use plane::point::Point;
-use plane::rect::{Rect, RectPath};
+use plane::rect::Rect;
 use plane::shape::Shape;
 use shapes::circle::{Circle, CirclePath};
-use shapes::triangle::{Triangle, TrianglePath};
+use shapes::triangle::Triangle;
 
 /// A mark on the page: any one of the shapes.
-#[derive(Clone, Copy)]
+#[derive(Clone, Copy, Debug, PartialEq)]
 pub enum Mark {
     /// A rectangle, such as a syllable's frame.
     Rect(Rect),
@@ -38,15 +41,19 @@ impl Mark {
 #[derive(Clone, Copy)]
 pub enum MarkPath {
     /// On a rectangle's.
-    Rect(RectPath),
+    Rect(ClosedPath<4>),
     /// On a circle's.
     Circle(CirclePath),
     /// On a triangle's.
-    Triangle(TrianglePath),
+    Triangle(ClosedPath<3>),
 }
 
-impl Cursor for MarkPath {
-    ghost rest = { path_rest };
+impl Iterator for MarkPath {
+    type Item = PathEl;
+
+    ghost next_gives = { YieldsFirst path_rest };
+
+    ghost remaining = { item_count path_rest };
 
     fn next(&mut self) -> Option<PathEl> {
         match self {
@@ -55,6 +62,16 @@ impl Cursor for MarkPath {
             MarkPath::Triangle(c) => c.next(),
         }
     }
+}
+
+impl Cursor for MarkPath {
+    ghost rest = { path_rest };
+
+    ghost ready = { λ c. tt };
+
+    ghost steps = { λ c d el s. s };
+
+    ghost ends = { Prim.search rules };
 }
 
 impl Shape for Mark {

@@ -1,5 +1,7 @@
 //! The paths of pieces.
 ghost use Rattle.std.specs.Prelude.{◌≡◌, ◌-◌, ◌^◌, min, length};
+ghost use Rattle.std.specs.Iterator.{YieldsFirst, item_count};
+ghost use Rattle.std.proofs.Common.{rules};
 ghost use Rattle.pieces.specs.Traced.{rest};
 ghost use Rattle.pieces.specs.Traced.{rest as path_rest};
 
@@ -23,17 +25,16 @@ impl PiecePath {
     pub fn count(self) -> u64
         ensures { result ≡ min (length (rest self)) (2 ^ 64 - 1) }
     {
-        let mut left = self;
-        let mut count = 0u64;
-        while let Some(_) = left.next() {
-            count = count.saturating_add(1);
-        }
-        count
+        self.fold(0, |count: u64, _| count.saturating_add(1))
     }
 }
 
-impl Cursor for PiecePath {
-    ghost rest = { path_rest };
+impl Iterator for PiecePath {
+    type Item = PathEl;
+
+    ghost next_gives = { YieldsFirst path_rest };
+
+    ghost remaining = { item_count path_rest };
 
     fn next(&mut self) -> Option<PathEl> {
         match self {
@@ -41,4 +42,14 @@ impl Cursor for PiecePath {
             PiecePath::Two(c) => c.next(),
         }
     }
+}
+
+impl Cursor for PiecePath {
+    ghost rest = { path_rest };
+
+    ghost ready = { λ c. tt };
+
+    ghost steps = { λ c d el s. s };
+
+    ghost ends = { Prim.search rules };
 }

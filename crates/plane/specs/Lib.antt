@@ -8,3 +8,6 @@ pub mod Affines
 pub mod Rectangles
 pub mod Equals
 pub mod Formed
+pub mod Outlines
+pub mod Enclosed
+pub mod Cursors

@@ -1,9 +1,11 @@
--- Paths, the paths that are well formed, and the steps of a cursor along one. Assumes nothing.
-use Rattle.std.specs.Prelude.{◌≡◌, Bool, true, false, cond, ◌&&◌, T, List, [], ◌∷◌, Some, None, Ok, Err, Option, Result, from_bits, Float}
-use Rattle.std.specs.Float.Ieee.{lt}
+-- Paths, the paths that are well formed, and what is refused before one. Assumes nothing.
+use Rattle.std.specs.Prelude.{◌≡◌, Bool, true, false, cond, ◌&&◌, T, List, [], ◌∷◌, Ok, Err, Result, from_bits, Float}
+use Rattle.std.specs.Float.Ieee.{mul, lt, le}
 use Rattle.std.specs.Float.{float_is_finite, binary64}
 use Rattle.plane.specs.declared.bezpath.PathEl.{PathEl}
 use Rattle.plane.specs.declared.bezpath.PathEl.TheVariants.{MoveTo, LineTo, QuadTo, CurveTo, ClosePath}
+use Rattle.plane.specs.declared.fault.ArcFault.{ArcFault}
+use Rattle.plane.specs.declared.fault.ArcFault.TheVariants as Arcs
 use Rattle.plane.specs.declared.fault.ShapeFault.{ShapeFault}
 use Rattle.plane.specs.declared.fault.ShapeFault.TheVariants.{Tolerance, NotFinite}
 
@@ -37,16 +39,23 @@ abbrev pub Answers : {C : Type 0} → (C → List PathEl) → Drawn → Result C
 Answers {C} rest d (Ok c) = d ≡ Ok (rest c)
 Answers {C} rest d (Err e) = d ≡ Err e
 
--- one step of a cursor: what is to come before, what is given, what is to come after
-abbrev pub Steps : List PathEl → Option PathEl → List PathEl → Type 0
-Steps [] r after = (r ≡ None) × (after ≡ [])
-Steps (x ∷ xs) r after = (r ≡ Some x) × (after ≡ xs)
-
 -- ---- refusals that come before any path
 -- a tolerance is finite, and above 0
 abbrev pub tolerable : Float → Bool
 tolerable t = float_is_finite t && lt (from_bits binary64 0) t
 
--- TOLERANCE first, then NOT FINITE, unless all parameters are finite, and then what is drawn
-abbrev pub checked : Float → Bool → Drawn → Drawn
+-- TOLERANCE first, then NOT FINITE, unless all parameters are finite, and then what is given else
+abbrev pub checked : {A : Type 0} → Float → Bool → Result A ShapeFault → Result A ShapeFault
 checked t ok d = cond (tolerable t) (cond ok d (Err NotFinite)) (Err Tolerance)
+
+-- ---- the error that a tolerance allows
+-- 1.1163 times a radius over a tolerance
+abbrev pub stretched : Float → Float
+stretched e = mul binary64 (from_bits binary64 0x3ff1_dc5d_6388_6595) e
+
+-- it is at most 2 ^ 36
+abbrev pub fine_enough : Float → Bool
+fine_enough e = le (stretched e) (from_bits binary64 0x4230_0000_0000_0000)
+
+abbrev pub stretched_or_too_fine : Float → Result Float ArcFault
+stretched_or_too_fine e = cond (fine_enough e) (Ok (stretched e)) (Err Arcs.TooFine)

@@ -1,5 +1,5 @@
 -- Rectangles: their box and winding as computed, for all floats; and the rule on the grid, over whole numbers. Assumes nothing.
-use Rattle.std.specs.Prelude.{Bool, false, cond, not, ◌&&◌, List, [], ◌∷◌, drop, ℤ, pos, negsuc, ◌≤ℤ◌, ◌<ℤ◌, Ok, from_bits, int_lt, Float}
+use Rattle.std.specs.Prelude.{Bool, false, cond, not, ◌&&◌, List, [], ◌∷◌, ℤ, pos, negsuc, ◌≤ℤ◌, ◌<ℤ◌, Ok, from_bits, int_lt, Float}
 use Rattle.std.specs.Bool.{beq}
 use Rattle.std.specs.Float.Ieee.{add, sub, mul, lt, le}
 use Rattle.std.specs.Float.{float_with_sign, float_is_finite, float_min, float_max, binary64}
@@ -8,10 +8,9 @@ use Rattle.floats.specs.Value.{Val}
 use Rattle.floats.specs.Page.{Grid}
 use Rattle.plane.specs.declared.point.Point.{Point}
 use Rattle.plane.specs.declared.rect.Rect.{Rect}
-use Rattle.plane.specs.declared.rect.RectPath.{RectPath}
 use Rattle.plane.specs.declared.bezpath.PathEl.{PathEl}
-use Rattle.plane.specs.declared.bezpath.PathEl.TheVariants.{MoveTo, LineTo, ClosePath}
 use Rattle.plane.specs.Vectors.{point}
+use Rattle.plane.specs.Outlines.{outline}
 use Rattle.plane.specs.Paths.{Drawn, checked}
 use Rattle.plane.specs.Winding.{Gives}
 
@@ -35,6 +34,10 @@ joined b c = rect (float_min b.x0 c.x0) (float_min b.y0 c.y0) (float_max b.x1 c.
 abbrev pub half_open : Rect → Point → Bool
 half_open b p = le b.x0 p.x && (lt p.x b.x1 && (le b.y0 p.y && lt p.y b.y1))
 
+-- p lies in b, its sides included
+abbrev pub closed : Rect → Point → Bool
+closed b p = le b.x0 p.x && (le p.x b.x1 && (le b.y0 p.y && le p.y b.y1))
+
 abbrev pub unlike : Bool → Bool → Bool
 unlike s t = not (beq s t)
 
@@ -50,21 +53,14 @@ abbrev pub finite_sides : Rect → Bool
 finite_sides r = float_is_finite r.x0 && (float_is_finite r.y0 && (float_is_finite r.x1 && float_is_finite r.y1))
 
 -- from the first corner along the first side
+abbrev pub corners : Rect → List Point
+corners r = point r.x0 r.y0 ∷ point r.x1 r.y0 ∷ point r.x1 r.y1 ∷ point r.x0 r.y1 ∷ []
+
 abbrev pub path : Rect → List PathEl
-path r =
-    MoveTo (point r.x0 r.y0)
-    ∷ LineTo (point r.x1 r.y0)
-    ∷ LineTo (point r.x1 r.y1)
-    ∷ LineTo (point r.x0 r.y1)
-    ∷ ClosePath
-    ∷ []
+path r = outline (corners r)
 
 abbrev pub drawn : Rect → Float → Drawn
 drawn r t = checked t (finite_sides r) (Ok (path r))
-
--- what a cursor that has given `ix` elements has still to give
-abbrev pub rest : RectPath → List PathEl
-rest c = drop c.ix (path c.rect)
 
 -- ---- on the grid
 -- r's corners are (a / 256, b / 256) and (c / 256, d / 256), and lie in the field

@@ -1,16 +1,15 @@
 //! Affine maps of the plane.
 ghost use Rattle.std.specs.Prelude.{◌≡◌};
-ghost use Rattle.plane.specs.Affines.{affine, shifting, turning, stretching, product, image, det, back_by, back, spanned, image_el, image_box, root_of_squares, radii_of, tilt_of, shift_of, all_finite};
+ghost use Rattle.plane.specs.Affines.{affine, shifting, turning, stretching, product, image, det, back_by, back, spanned, image_el, image_box, radii_of, tilt_of, shift_of, all_finite};
 
 use super::bezpath::PathEl;
 use super::point::Point;
 use super::rect::Rect;
 use super::vec2::Vec2;
-use elementary::sqrt::sqrt;
 use elementary::trig::{atan2, sin_cos};
 
 /// An affine map: it sends (x, y) to (ax + cy + e, bx + dy + f).
-#[derive(Clone, Copy)]
+#[derive(Clone, Copy, Debug, PartialEq)]
 pub struct Affine {
     /// What x adds to x.
     pub a: f64,
@@ -145,8 +144,8 @@ impl Affine {
     fn radii(self) -> Vec2
         ensures { result ≡ radii_of self }
     {
-        let s = hypot(self.a + self.d, self.b - self.c);
-        let t = hypot(self.a - self.d, self.b + self.c);
+        let s = Vec2::new(self.a + self.d, self.b - self.c).hypot();
+        let t = Vec2::new(self.a - self.d, self.b + self.c).hypot();
         Vec2::new(0.5 * (s + t), 0.5 * (s - t).abs())
     }
 
@@ -184,11 +183,4 @@ const fn from_points(p: Point, q: Point) -> Rect
     ensures { result ≡ spanned p q }
 {
     Rect::new(p.x, p.y, q.x, q.y).abs()
-}
-
-// The root of the sum of two squares.
-fn hypot(x: f64, y: f64) -> f64
-    ensures { result ≡ root_of_squares x y }
-{
-    sqrt(x * x + y * y)
 }

@@ -2,7 +2,7 @@
 use super::point::Point;
 
 /// An element of a path.
-#[derive(Clone, Copy)]
+#[derive(Clone, Copy, Debug, PartialEq)]
 pub enum PathEl {
     /// Begin a part at this point.
     MoveTo(Point),

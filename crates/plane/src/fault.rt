@@ -1,6 +1,8 @@
-//! Why a shape refuses to answer.
-ghost use Rattle.std.specs.Prelude.{◌≡◌};
-ghost use Rattle.plane.specs.Faults.{number_of, name_of, as_shape_fault, at_corner};
+//! Why a shape refuses to answer, and why a point is none of the page.
+ghost use Rattle.std.specs.Prelude.{◌≡◌, Some};
+ghost use Rattle.plane.specs.Faults.{place_of, number_of, name_of, text_of, as_shape_fault, at_corner, page_number_of, page_name_of, page_text_of};
+
+use std::fmt;
 
 /// Why an arc refuses its curves.
 #[derive(Clone, Copy, Debug, PartialEq, Eq)]
@@ -9,11 +11,38 @@ pub enum ArcFault {
     TooFine,
 }
 
-/// An arc's fault, with the corner of a rounded rectangle that the arc rounds, in drawing order.
+/// A corner of a rounded rectangle, in drawing order. The top is where y is smaller.
+#[derive(Clone, Copy, Debug, PartialEq, Eq)]
+pub enum Corner {
+    /// At the lesser x and y.
+    TopLeft,
+    /// At the greater x and the lesser y.
+    TopRight,
+    /// At the greater x and y.
+    BottomRight,
+    /// At the lesser x and the greater y.
+    BottomLeft,
+}
+
+impl Corner {
+    /// The corner's place in drawing order, from 0 to 3.
+    pub fn number(self) -> u8
+        ensures { result ≡ place_of self }
+    {
+        match self {
+            Corner::TopLeft => 0,
+            Corner::TopRight => 1,
+            Corner::BottomRight => 2,
+            Corner::BottomLeft => 3,
+        }
+    }
+}
+
+/// An arc's fault, with the corner of a rounded rectangle that the arc rounds.
 #[derive(Clone, Copy, Debug, PartialEq, Eq)]
 pub struct CornerFault {
-    /// The corner, from 0 to 3 in drawing order.
-    pub corner: u8,
+    /// The corner.
+    pub corner: Corner,
     /// What the corner's arc says.
     pub fault: ArcFault,
 }
@@ -27,8 +56,8 @@ pub enum ShapeFault {
     NotFinite,
     /// 3 TOO FINE: the tolerance is too fine for the shape; a rounded rectangle names its first such corner.
     TooFine {
-        /// The corner, from 0 to 3 in drawing order, where the shape has corners.
-        corner: Option<u8>,
+        /// The corner, where the shape has corners.
+        corner: Option<Corner>,
     },
     /// 9 STEPS: the allowance of steps is spent before the length is known.
     Steps,
@@ -60,6 +89,25 @@ impl ShapeFault {
     }
 }
 
+// The number and the name, and the corner where one is named.
+impl fmt::Display for ShapeFault {
+    ghost output = { λ f. Some (text_of f) };
+
+    fn fmt<W: fmt::Write>(&self, f: &mut fmt::Formatter<W>) -> fmt::Result {
+        let number = self.number();
+        let name = self.name();
+        match self {
+            ShapeFault::TooFine {
+                corner: Some(corner),
+            } => {
+                let corner = corner.number();
+                write!(f, "{number} {name} corner {corner}")
+            }
+            _ => write!(f, "{number} {name}"),
+        }
+    }
+}
+
 impl From<ArcFault> for ShapeFault {
     ghost from_gives = { λ f r. r ≡ as_shape_fault f };
 
@@ -79,5 +127,47 @@ impl From<CornerFault> for ShapeFault {
                 corner: Some(fault.corner),
             },
         }
+    }
+}
+
+/// Why a point is no grid point of the page. The cases stand in the order in which they are tried.
+#[derive(Clone, Copy, Debug, PartialEq, Eq)]
+pub enum PageFault {
+    /// 6 OFF GRID: a coordinate is no grid number, that is, no multiple of 1/256.
+    OffGrid,
+    /// 7 OFF PAGE: both coordinates are grid numbers, and one of them is not on the page, which runs from -4096 to 4096.
+    OffPage,
+}
+
+impl PageFault {
+    /// The number of the refusal: 6 or 7.
+    pub fn number(self) -> u8
+        ensures { result ≡ page_number_of self }
+    {
+        match self {
+            PageFault::OffGrid => 6,
+            PageFault::OffPage => 7,
+        }
+    }
+
+    /// The name of the refusal: OFF GRID or OFF PAGE.
+    pub fn name(self) -> &'static str
+        ensures { result.now ≡ page_name_of self }
+    {
+        match self {
+            PageFault::OffGrid => "OFF GRID",
+            PageFault::OffPage => "OFF PAGE",
+        }
+    }
+}
+
+// The number and the name.
+impl fmt::Display for PageFault {
+    ghost output = { λ f. Some (page_text_of f) };
+
+    fn fmt<W: fmt::Write>(&self, f: &mut fmt::Formatter<W>) -> fmt::Result {
+        let number = self.number();
+        let name = self.name();
+        write!(f, "{number} {name}")
     }
 }

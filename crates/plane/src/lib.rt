@@ -3,6 +3,7 @@
 
 pub mod affine;
 pub mod bezpath;
+pub mod closed_path;
 pub mod cursor;
 pub mod fault;
 pub mod point;

@@ -5,20 +5,19 @@ ghost use Rattle.std.specs.Float.Ieee.{sub};
 ghost use Rattle.std.specs.Int.{int_min, int_max};
 ghost use Rattle.floats.specs.Value.{Val};
 ghost use Rattle.plane.specs.Winding.{Lawful, nonzero};
-ghost use Rattle.plane.specs.Rects.{rect, area_of, length_of, finite_sides, box, joined, wind, GridRect, Sides, RuleOfRect};
-ghost use Rattle.plane.specs.Rects.{box as rect_box, wind as rect_wind, drawn as rect_drawn, rest as path_rest};
+ghost use Rattle.plane.specs.Rects.{rect, corners, area_of, length_of, finite_sides, box, joined, closed, wind, GridRect, Sides, RuleOfRect};
+ghost use Rattle.plane.specs.Rects.{box as rect_box, wind as rect_wind, drawn as rect_drawn};
 ghost use Rattle.plane.specs.Points.{GridPoint};
 ghost use Rattle.plane.specs.Rectangles.{rect_lawful, rect_formed};
 
-use super::bezpath::PathEl;
-use super::cursor::Cursor;
+use super::closed_path::ClosedPath;
 use super::fault::ShapeFault;
 use super::point::Point;
-use super::shape::{Shape, is_tolerance};
+use super::shape::{Shape, check_drawable};
 use floats::order::{greater, lesser};
 
 /// A rectangle by two opposite corners. It may be reversed: nothing keeps x0 below x1, or y0 below y1.
-#[derive(Clone, Copy)]
+#[derive(Clone, Copy, Debug, PartialEq)]
 pub struct Rect {
     /// The x coordinate of the first corner.
     pub x0: f64,
@@ -124,6 +123,25 @@ impl Rect {
         self.x0.is_finite() && self.y0.is_finite() && self.x1.is_finite() && self.y1.is_finite()
     }
 
+    /// Whether `pt` lies between the sides, or on one of them: in the closed box, where no side is reversed.
+    pub const fn encloses(&self, pt: Point) -> bool
+        ensures { result ≡ closed self.now pt }
+    {
+        self.x0 <= pt.x && pt.x <= self.x1 && self.y0 <= pt.y && pt.y <= self.y1
+    }
+
+    // The corners, from the first along the first side.
+    const fn corners(&self) -> [Point; 4]
+        ensures { result ≡ corners self.now }
+    {
+        [
+            Point::new(self.x0, self.y0),
+            Point::new(self.x1, self.y0),
+            Point::new(self.x1, self.y1),
+            Point::new(self.x0, self.y1),
+        ]
+    }
+
     // The area, as the definition computes it.
     const fn extent(&self) -> f64
         ensures { result ≡ area_of self.now }
@@ -148,33 +166,8 @@ impl Rect {
     }
 }
 
-/// A cursor on a rectangle's path.
-#[derive(Clone, Copy)]
-pub struct RectPath {
-    rect: Rect,
-    ix: u8,
-}
-
-impl Cursor for RectPath {
-    ghost rest = { path_rest };
-
-    fn next(&mut self) -> Option<PathEl> {
-        let r = self.rect;
-        let el = match self.ix {
-            0 => PathEl::MoveTo(Point::new(r.x0, r.y0)),
-            1 => PathEl::LineTo(Point::new(r.x1, r.y0)),
-            2 => PathEl::LineTo(Point::new(r.x1, r.y1)),
-            3 => PathEl::LineTo(Point::new(r.x0, r.y1)),
-            4 => PathEl::ClosePath,
-            _ => return None,
-        };
-        self.ix += 1;
-        Some(el)
-    }
-}
-
 impl Shape for Rect {
-    type Path = RectPath;
+    type Path = ClosedPath<4>;
 
     ghost wind = { rect_wind };
 
@@ -198,13 +191,8 @@ impl Shape for Rect {
         self.abs()
     }
 
-    fn path_elements(&self, tolerance: f64) -> Result<RectPath, ShapeFault> {
-        if !is_tolerance(tolerance) {
-            return Err(ShapeFault::Tolerance);
-        }
-        if !self.is_finite() {
-            return Err(ShapeFault::NotFinite);
-        }
-        Ok(RectPath { rect: *self, ix: 0 })
+    fn path_elements(&self, tolerance: f64) -> Result<ClosedPath<4>, ShapeFault> {
+        check_drawable(tolerance, self.is_finite())?;
+        Ok(ClosedPath::new(self.corners()))
     }
 }

@@ -1,21 +1,24 @@
 //! What every shape answers.
-ghost use Rattle.std.specs.Prelude.{◌≡◌, ℤ, pos, ◌≢◌, Float};
+ghost use Rattle.std.specs.Prelude.{◌≡◌, ℤ, pos, ◌≢◌, Ok, Float};
 ghost use Rattle.plane.specs.declared.point.Point.{Point};
 ghost use Rattle.plane.specs.declared.rect.Rect.{Rect};
 ghost use Rattle.plane.specs.Points.{FieldPoint, Same, FiniteBox, InBox};
 ghost use Rattle.plane.specs.Winding.{IsWinding};
-ghost use Rattle.plane.specs.Paths.{Drawn, WellDrawn, Answers, tolerable};
+ghost use Rattle.plane.specs.Paths.{Drawn, WellDrawn, Answers, tolerable, checked, stretched_or_too_fine};
 
 use super::cursor::Cursor;
-use super::fault::ShapeFault;
+use super::fault::{ArcFault, ShapeFault};
 use super::point::Point;
 use super::rect::Rect;
+
+// 2³⁶, above which a tolerance is too fine.
+const MOST_STRETCHED: f64 = 68719476736.0;
 
 /// A shape, by its winding at each point, its box, and for each tolerance its path or a refusal.
 /// Asking a shape changes nothing.
 pub trait Shape: Copy {
     /// What walks along the shape's path.
-    type Path: Cursor + Drop;
+    type Path: Cursor;
 
     /// The winding at each point.
     ghost wind: { Self → Point → ℤ };
@@ -56,4 +59,31 @@ pub fn is_tolerance(t: f64) -> bool
     ensures { result ≡ tolerable t }
 {
     t.is_finite() && 0.0 < t
+}
+
+/// What comes before any path: refuses 1 TOLERANCE for what is no tolerance, and then 2 NOT FINITE unless the shape's
+/// parameters are `finite`.
+pub fn check_drawable(tolerance: f64, finite: bool) -> Result<(), ShapeFault>
+    ensures { result ≡ checked tolerance finite (Ok tt) }
+{
+    if !is_tolerance(tolerance) {
+        return Err(ShapeFault::Tolerance);
+    }
+    if !finite {
+        return Err(ShapeFault::NotFinite);
+    }
+    Ok(())
+}
+
+/// The error of a radius over a tolerance, stretched: 1.1163 times `scaled_err`, whose sixth root is how many curves a
+/// circle needs. It refuses as too fine what is then above 2³⁶, or not-a-number.
+pub fn stretched(scaled_err: f64) -> Result<f64, ArcFault>
+    ensures { result ≡ stretched_or_too_fine scaled_err }
+{
+    let error = 1.1163 * scaled_err;
+    if error <= MOST_STRETCHED {
+        Ok(error)
+    } else {
+        Err(ArcFault::TooFine)
+    }
 }

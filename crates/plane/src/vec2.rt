@@ -5,7 +5,7 @@ ghost use Rattle.plane.specs.Vectors.{vec2 as vector, dot as dotted, cross as cr
 use elementary::sqrt::sqrt;
 
 /// A vector of the plane, in staff spaces.
-#[derive(Clone, Copy)]
+#[derive(Clone, Copy, Debug, PartialEq)]
 pub struct Vec2 {
     /// The x component.
     pub x: f64,

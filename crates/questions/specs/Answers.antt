@@ -23,6 +23,8 @@ use Rattle.ellipses.specs.Lengths as Lengths
 use Rattle.ellipses.specs.Ovals as Ovals
 use Rattle.questions.specs.declared.answer.Answer.{Answer}
 use Rattle.questions.specs.declared.answer.Answer.TheVariants as Given
+use Rattle.questions.specs.declared.question.ShapeAsk.{ShapeAsk}
+use Rattle.questions.specs.declared.question.ShapeAsk.TheVariants as OfShape
 use Rattle.questions.specs.declared.question.Ask.{Ask}
 use Rattle.questions.specs.declared.question.Ask.TheVariants as Asked
 use Rattle.questions.specs.declared.question.EllipseAsk.{EllipseAsk}
@@ -32,43 +34,31 @@ use Rattle.questions.specs.declared.question.MapAsk.TheVariants as OfMap
 use Rattle.questions.specs.declared.question.Question.{Question}
 use Rattle.questions.specs.declared.question.Question.TheVariants as Questions
 
--- what a shape is, as far as it is asked
+-- what every shape is, as far as it is asked
 pub record Shown : Type 0 where
   pub area : Float
-  pub length : Float
   pub frame : Rect
   pub wind : Point → ℤ
   pub drawn : Float → Drawn
 
+-- by its area, its box, its winding and its path
+abbrev pub shown : {S : Type 0} → (S → Float) → (S → Rect) → (S → Point → ℤ) → (S → Float → Drawn) → S → Shown
+shown {S} area frame wind drawn s = record { area = area s; frame = frame s; wind = wind s; drawn = drawn s }
+
 abbrev pub of_rect : Rect → Shown
-of_rect r = record { area = Rects.area_of r; length = Rects.length_of r; frame = Rects.box r; wind = Rects.wind r; drawn = Rects.drawn r }
+of_rect = shown Rects.area_of Rects.box Rects.wind Rects.drawn
 
 abbrev pub of_circle : Circle → Shown
-of_circle c = record {
-  area = mul binary64 Circles.π (mul binary64 c.radius c.radius);
-  length = Circles.length_of c;
-  frame = Circles.box c;
-  wind = Circles.wind c;
-  drawn = Circles.drawn c;
-}
+of_circle = shown (λ c. mul binary64 Circles.π (mul binary64 c.radius c.radius)) Circles.box Circles.wind Circles.drawn
 
 abbrev pub of_triangle : Triangle → Shown
-of_triangle t = record {
-  area = mul binary64 Triangles.half (Triangles.area2 t);
-  length = Triangles.length_of t;
-  frame = Triangles.box t;
-  wind = Triangles.wind t;
-  drawn = Triangles.drawn t;
-}
+of_triangle = shown (λ t. mul binary64 Triangles.half (Triangles.area2 t)) Triangles.box Triangles.wind Triangles.drawn
 
 abbrev pub of_rounded : RoundedRect → Shown
-of_rounded s = record {
-  area = Roundings.area_of s;
-  length = Roundings.length_of s;
-  frame = Rects.box s.rect;
-  wind = Roundings.wind s;
-  drawn = Outlines.drawn s;
-}
+of_rounded = shown Roundings.area_of (λ s. Rects.box s.rect) Roundings.wind Outlines.drawn
+
+abbrev pub of_ellipse : Ellipse → Shown
+of_ellipse = shown Ellipses.area_of Ellipses.box Ellipses.wind Ovals.drawn
 
 -- the path that an answer has, or the refusal that it is
 abbrev pub drawing : Answer → Option Drawn
@@ -84,13 +74,17 @@ drawing (Given.Corners r k) = None
 drawing (Given.Path v) = Some (Ok (vec_items v))
 drawing (Given.Refused e) = Some (Err e)
 
-abbrev pub Answers : Shown → Ask → Answer → Type 0
-Answers s Asked.Area a = a ≡ Given.Number s.area
-Answers s Asked.Perimeter a = a ≡ Given.Number s.length
-Answers s Asked.Frame a = a ≡ Given.Frame s.frame
-Answers s (Asked.Winding p) a = a ≡ Given.Winding (s.wind p)
-Answers s (Asked.Contains p) a = a ≡ Given.Holds (nonzero (s.wind p))
-Answers s (Asked.Path t) a = drawing a ≡ Some (s.drawn t)
+abbrev pub ShapeAnswers : Shown → ShapeAsk → Answer → Type 0
+ShapeAnswers s OfShape.Area a = a ≡ Given.Number s.area
+ShapeAnswers s OfShape.Frame a = a ≡ Given.Frame s.frame
+ShapeAnswers s (OfShape.Winding p) a = a ≡ Given.Winding (s.wind p)
+ShapeAnswers s (OfShape.Contains p) a = a ≡ Given.Holds (nonzero (s.wind p))
+ShapeAnswers s (OfShape.Path t) a = drawing a ≡ Some (s.drawn t)
+
+-- of a shape with a boundary of this length
+abbrev pub Answers : Float → Shown → Ask → Answer → Type 0
+Answers length s Asked.Perimeter a = a ≡ Given.Number length
+Answers length s (Asked.Shape k) a = ShapeAnswers s k a
 
 -- a length and its steps, or the refusal
 abbrev pub measured : Result (Float × ℕ) ShapeFault → Answer
@@ -98,14 +92,10 @@ measured (Ok r) = Given.Length r.0 r.1
 measured (Err e) = Given.Refused e
 
 abbrev pub EllipseAnswers : Ellipse → EllipseAsk → Answer → Type 0
-EllipseAnswers l OfEllipse.Area a = a ≡ Given.Number (Ellipses.area_of l)
 EllipseAnswers l (OfEllipse.Length accuracy allowance) a = a ≡ measured (Lengths.length_of (radii_of l.inner) accuracy allowance)
-EllipseAnswers l OfEllipse.Frame a = a ≡ Given.Frame (Ellipses.box l)
-EllipseAnswers l (OfEllipse.Winding p) a = a ≡ Given.Winding (Ellipses.wind l p)
-EllipseAnswers l (OfEllipse.Contains p) a = a ≡ Given.Holds (nonzero (Ellipses.wind l p))
-EllipseAnswers l (OfEllipse.Path t) a = drawing a ≡ Some (Ovals.drawn l t)
 EllipseAnswers l OfEllipse.Radii a = a ≡ Given.Radii (radii_of l.inner) (tilt_of l.inner)
 EllipseAnswers l OfEllipse.Map a = a ≡ Given.Map l.inner
+EllipseAnswers l (OfEllipse.Shape k) a = ShapeAnswers (of_ellipse l) k a
 
 abbrev pub map_answer : Affine → MapAsk → Answer
 map_answer m (OfMap.Image p) = Given.Point (image m p)
@@ -116,10 +106,10 @@ map_answer m (OfMap.Frame r) = Given.Frame (image_box m r)
 
 -- the answer is the right one
 abbrev pub RightTo : Question → Answer → Type 0
-RightTo (Questions.Rect r k) a = Answers (of_rect r) k a
-RightTo (Questions.Circle c k) a = Answers (of_circle c) k a
-RightTo (Questions.Triangle t k) a = Answers (of_triangle t) k a
-RightTo (Questions.Rounded s k) a = Answers (of_rounded s) k a
+RightTo (Questions.Rect r k) a = Answers (Rects.length_of r) (of_rect r) k a
+RightTo (Questions.Circle c k) a = Answers (Circles.length_of c) (of_circle c) k a
+RightTo (Questions.Triangle t k) a = Answers (Triangles.length_of t) (of_triangle t) k a
+RightTo (Questions.Rounded s k) a = Answers (Roundings.length_of s) (of_rounded s) k a
 RightTo (Questions.Corners s) a = a ≡ Given.Corners s.rect s.radii
 RightTo (Questions.Ellipse l k) a = EllipseAnswers l k a
 RightTo (Questions.Affine m k) a = a ≡ map_answer m k

@@ -1,2 +1,5 @@
 pub mod Names
+pub mod Named
 pub mod Answers
+pub mod Memory
+pub mod Texts

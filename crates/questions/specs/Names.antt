@@ -1,11 +1,24 @@
 -- What cases are about, and the names of what they ask. Assumes nothing.
-use Rattle.std.specs.Prelude.{ℕ, List, codes}
+use Rattle.std.specs.Prelude.{ℕ, List, [], ◌∷◌, codes}
 use Rattle.questions.specs.declared.question.Kind.{Kind}
 use Rattle.questions.specs.declared.question.Kind.TheVariants as Kinds
 use Rattle.questions.specs.declared.question.Question.{Question}
 use Rattle.questions.specs.declared.question.Question.TheVariants as Questions
 use Rattle.questions.specs.declared.question.What.{What}
 use Rattle.questions.specs.declared.question.What.TheVariants as Whats
+
+-- each, in the order of the report
+abbrev pub all_kinds : List Kind
+all_kinds = Kinds.Rect ∷ Kinds.Circle ∷ Kinds.Triangle ∷ Kinds.Rounded ∷ Kinds.Ellipse ∷ Kinds.Affine ∷ []
+
+-- the place in the report
+abbrev pub place_of : Kind → ℕ
+place_of Kinds.Rect = 0
+place_of Kinds.Circle = 1
+place_of Kinds.Triangle = 2
+place_of Kinds.Rounded = 3
+place_of Kinds.Ellipse = 4
+place_of Kinds.Affine = 5
 
 abbrev pub name_of : Kind → List ℕ
 name_of Kinds.Rect = codes "rect"
@@ -14,6 +27,11 @@ name_of Kinds.Triangle = codes "triangle"
 name_of Kinds.Rounded = codes "rounded"
 name_of Kinds.Ellipse = codes "ellipse"
 name_of Kinds.Affine = codes "affine"
+
+abbrev pub all_whats : List What
+all_whats =
+    Whats.Area ∷ Whats.Perimeter ∷ Whats.Box ∷ Whats.Winding ∷ Whats.Contains ∷ Whats.Path ∷ Whats.Radii ∷ Whats.New
+    ∷ Whats.Point ∷ Whats.Mul ∷ Whats.Inverse ∷ Whats.Determinant ∷ Whats.Bbox ∷ []
 
 abbrev pub word_of : What → List ℕ
 word_of Whats.Area = codes "area"

@@ -2,4 +2,6 @@
 #![tactic(auto)]
 
 pub mod answer;
+mod figure;
 pub mod question;
+mod text;

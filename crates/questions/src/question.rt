@@ -1,7 +1,10 @@
 //! What a case asks.
-ghost use Rattle.std.specs.Prelude.{◌≡◌, IfSome, Some};
-ghost use Rattle.questions.specs.Names.{name_of, word_of, kind_of};
+ghost use Rattle.std.specs.Prelude.{◌≡◌};
+ghost use Rattle.questions.specs.Names.{name_of, word_of, kind_of, all_kinds, all_whats, place_of};
+ghost use Rattle.questions.specs.Named.{kinds_named, whats_named, kinds_placed};
 
+use cases::named::Named;
+use cases::report::Counted;
 use ellipses::ellipse::Ellipse;
 use plane::affine::Affine;
 use plane::point::Point;
@@ -9,10 +12,9 @@ use plane::rect::Rect;
 use rounded::rounded_rect::RoundedRect;
 use shapes::circle::Circle;
 use shapes::triangle::Triangle;
-use std::fmt;
 
 /// What a case is about.
-#[derive(Clone, Copy)]
+#[derive(Clone, Copy, Debug, PartialEq, Eq)]
 pub enum Kind {
     /// A rectangle.
     Rect,
@@ -41,10 +43,18 @@ impl Kind {
         Kind::Ellipse,
         Kind::Affine,
     ];
+}
 
-    fn name(self) -> &'static str
-        ensures { result.now ≡ name_of self }
-    {
+impl Named for Kind {
+    ghost name_of = { name_of };
+
+    ghost all = { all_kinds };
+
+    fn all() -> &'static [Kind] {
+        &Kind::ALL
+    }
+
+    fn name(self) -> &'static str {
         match self {
             Kind::Rect => "rect",
             Kind::Circle => "circle",
@@ -55,29 +65,21 @@ impl Kind {
         }
     }
 
-    /// The kind with this name.
-    pub fn named(name: &str) -> Option<Kind>
-        ensures { IfSome result (λ k. name.now ≡ name_of k) }
-    {
-        for kind in Kind::ALL {
-            if kind.name() == name {
-                return Some(kind);
-            }
-        }
-        None
-    }
+    ghost each = { kinds_named };
 }
 
-impl fmt::Display for Kind {
-    ghost output = { λ k. Some (name_of k) };
+impl Counted<{ Kind::COUNT }> for Kind {
+    ghost place_of = { place_of };
 
-    fn fmt<W: fmt::Write>(&self, f: &mut fmt::Formatter<W>) -> fmt::Result {
-        f.write_str(self.name())
+    fn place(self) -> usize {
+        self as usize
     }
+
+    ghost within = { kinds_placed };
 }
 
 /// What is asked, by its name.
-#[derive(Clone, Copy)]
+#[derive(Clone, Copy, Debug, PartialEq, Eq)]
 pub enum What {
     /// The area.
     Area,
@@ -107,26 +109,30 @@ pub enum What {
     Bbox,
 }
 
-impl What {
-    const ALL: [What; 13] = [
-        What::Area,
-        What::Perimeter,
-        What::Box,
-        What::Winding,
-        What::Contains,
-        What::Path,
-        What::Radii,
-        What::New,
-        What::Point,
-        What::Mul,
-        What::Inverse,
-        What::Determinant,
-        What::Bbox,
-    ];
+impl Named for What {
+    ghost name_of = { word_of };
 
-    fn name(self) -> &'static str
-        ensures { result.now ≡ word_of self }
-    {
+    ghost all = { all_whats };
+
+    fn all() -> &'static [What] {
+        &[
+            What::Area,
+            What::Perimeter,
+            What::Box,
+            What::Winding,
+            What::Contains,
+            What::Path,
+            What::Radii,
+            What::New,
+            What::Point,
+            What::Mul,
+            What::Inverse,
+            What::Determinant,
+            What::Bbox,
+        ]
+    }
+
+    fn name(self) -> &'static str {
         match self {
             What::Area => "area",
             What::Perimeter => "perimeter",
@@ -144,55 +150,44 @@ impl What {
         }
     }
 
-    /// What has this name.
-    pub fn named(name: &str) -> Option<What>
-        ensures { IfSome result (λ w. name.now ≡ word_of w) }
-    {
-        for what in What::ALL {
-            if what.name() == name {
-                return Some(what);
-            }
-        }
-        None
-    }
+    ghost each = { whats_named };
+}
+
+/// What is asked of every shape.
+#[derive(Clone, Copy)]
+pub enum ShapeAsk {
+    /// The area.
+    Area,
+    /// The bounding box.
+    Frame,
+    /// The winding at this point.
+    Winding(Point),
+    /// Whether this point is held.
+    Contains(Point),
+    /// The path at this tolerance.
+    Path(f64),
 }
 
 /// What is asked of a rectangle, a circle, a triangle or a rounded rectangle.
 #[derive(Clone, Copy)]
 pub enum Ask {
-    /// The area.
-    Area,
     /// The length of the boundary.
     Perimeter,
-    /// The bounding box.
-    Frame,
-    /// The winding at this point.
-    Winding(Point),
-    /// Whether this point is held.
-    Contains(Point),
-    /// The path at this tolerance.
-    Path(f64),
+    /// What every shape is asked.
+    Shape(ShapeAsk),
 }
 
 /// What is asked of an ellipse.
 #[derive(Clone, Copy)]
 pub enum EllipseAsk {
-    /// The area.
-    Area,
     /// The length within this accuracy, with this allowance of steps.
     Length(f64, u32),
-    /// The bounding box.
-    Frame,
-    /// The winding at this point.
-    Winding(Point),
-    /// Whether this point is held.
-    Contains(Point),
-    /// The path at this tolerance.
-    Path(f64),
     /// The radii and the angle.
     Radii,
     /// The map.
     Map,
+    /// What every shape is asked.
+    Shape(ShapeAsk),
 }
 
 /// What is asked of an affine map.

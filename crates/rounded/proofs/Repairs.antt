@@ -27,13 +27,12 @@ use Rattle.rounded.specs.Halves.{zero_is, in_half, in_fine, half_above, half_of_
 abbrev Number : Float → Type 0
 Number x = T (not (is_nan x))
 
-either_number : (t : Bool) (x y : Float) → Number x → Number y → Number (cond t x y)
-either_number true x y p q = p
-either_number false x y p q = q
+abbrev Finite : Float → Type 0
+Finite x = T (finite x)
 
-either_finite : (t : Bool) (x y : Float) → T (finite x) → T (finite y) → T (finite (cond t x y))
-either_finite true x y p q = p
-either_finite false x y p q = q
+either : (P : Float → Type 0) (t : Bool) (x y : Float) → P x → P y → P (cond t x y)
+either P true x y p q = p
+either P false x y p q = q
 
 either_above : (t : Bool) (x y : Float) → Number (cond t x y) → (Number x → T (le zeroF x)) → (Number y → T (le zeroF y)) → T (le zeroF (cond t x y))
 either_above true x y n p q = p n
@@ -124,12 +123,12 @@ made_repaired s r k e = subst Repaired (sym e) (record {
 
 pub made_sound : (s : RoundedRect) (r : Rect) (k : RoundedRectRadii) → s ≡ made_of r k → FiniteBox r → Sound s
 made_sound s r k e f =
-    let X = sub_number binary64 (float_max r.x0 r.x1) (float_min r.x0 r.x1) (either_finite _ r.x0 r.x1 f.x0 f.x1) (either_finite _ r.x0 r.x1 f.x0 f.x1) in
-    let Y = sub_number binary64 (float_max r.y0 r.y1) (float_min r.y0 r.y1) (either_finite _ r.y0 r.y1 f.y0 f.y1) (either_finite _ r.y0 r.y1 f.y0 f.y1) in
+    let X = sub_number binary64 (float_max r.x0 r.x1) (float_min r.x0 r.x1) (either Finite _ r.x0 r.x1 f.x0 f.x1) (either Finite _ r.x0 r.x1 f.x0 f.x1) in
+    let Y = sub_number binary64 (float_max r.y0 r.y1) (float_min r.y0 r.y1) (either Finite _ r.y0 r.y1 f.y0 f.y1) (either Finite _ r.y0 r.y1 f.y0 f.y1) in
     subst Sound (sym e) (record {
-      across = ordered r.x0 r.x1 (either_number _ r.x0 r.x1 (finite_number r.x0 f.x0) (finite_number r.x1 f.x1));
-      down = ordered r.y0 r.y1 (either_number _ r.y0 r.y1 (finite_number r.y0 f.y0) (finite_number r.y1 f.y1));
-      radii = sound_radii r k (half_above _ (shorter_above r (either_number _ (width (box r)) (height (box r)) X Y)));
+      across = ordered r.x0 r.x1 (either Number _ r.x0 r.x1 (finite_number r.x0 f.x0) (finite_number r.x1 f.x1));
+      down = ordered r.y0 r.y1 (either Number _ r.y0 r.y1 (finite_number r.y0 f.y0) (finite_number r.y1 f.y1));
+      radii = sound_radii r k (half_above _ (shorter_above r (either Number _ (width (box r)) (height (box r)) X Y)));
     })
 
 -- ---- of grid numbers

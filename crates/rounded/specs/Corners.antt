@@ -1,9 +1,8 @@
 -- The winding of a rounded rectangle keeps the laws of windings, and is the whole-number rule on the grid. Assumes nothing.
-use Rattle.std.specs.Prelude.{◌≡◌, ℕ, ◌≤◌, Bool, true, false, cond, ◌&&◌, T, ℤ, pos, ◌+ℤ◌, ◌-ℤ◌, ◌*ℤ◌, ◌≤ℤ◌, ◌≢◌, int_le, unsigned_abs, refl, Float}
-use Rattle.std.proofs.Common.{sym, ap, ◌∙◌, subst, inl, inr, arith}
+use Rattle.std.specs.Prelude.{◌≡◌, ℕ, ◌≤◌, Bool, true, false, cond, ◌&&◌, T, ℤ, pos, ◌+ℤ◌, ◌-ℤ◌, ◌*ℤ◌, ◌≤ℤ◌, int_le, unsigned_abs, Float}
+use Rattle.std.proofs.Common.{sym, ap, ◌∙◌, subst, arith}
 use Rattle.std.specs.Float.{binary64}
 use Rattle.std.specs.Float.Ieee.{add, sub, mul, div, le}
-use Rattle.std.specs.Float.Ieee.Fits.{and_l, and_r}
 use Rattle.std.specs.Int.{int_min}
 use Rattle.std.proofs.lemmas.Int.{ints, clamps}
 use Rattle.floats.specs.Value.{In}
@@ -14,33 +13,20 @@ use Rattle.floats.proofs.Bounded.{in_add, in_sub, in_mul, in_abs, in_le, in_min,
 use Rattle.plane.specs.declared.point.Point.{Point}
 use Rattle.plane.specs.declared.rect.Rect.{Rect}
 use Rattle.plane.specs.declared.vec2.Vec2.{Vec2}
-use Rattle.plane.specs.Points.{GridPoint, Same, InBox}
-use Rattle.plane.specs.Rects.{box}
+use Rattle.plane.specs.Points.{GridPoint, Same}
+use Rattle.plane.specs.Rects.{box, closed}
 use Rattle.plane.specs.Vectors.{from_to}
-use Rattle.plane.specs.Winding.{IsWinding, Lawful}
-use Rattle.plane.specs.Equals.{alike_refl, alike_sym, SameVec, to_same}
+use Rattle.plane.specs.Winding.{Lawful}
+use Rattle.plane.specs.Equals.{alike_refl, SameVec, to_same}
+use Rattle.plane.specs.Enclosed.{enclosed_lawful}
 use Rattle.rounded.specs.declared.rounded_rect.RoundedRect.{RoundedRect}
 use Rattle.rounded.specs.declared.rounded_rect_radii.RoundedRectRadii.{RoundedRectRadii}
-use Rattle.rounded.specs.Roundings.{zero, half, two, width, height, middle, closed, radius_at, past, reaches, reached, wind, SoundRadius, Sound, GridRounded}
+use Rattle.rounded.specs.Roundings.{zero, half, two, width, height, middle, radius_at, past, reaches, reached, wind, SoundRadius, Sound, GridRounded}
 use Rattle.rounded.specs.Shrunk.{twice, shorter, corner_radius, RuleOfRounded}
 use Rattle.rounded.specs.Halves.{zero_in, half_in, in_half, in_fine}
 use Rattle.rounded.specs.Nearest.{pastZ, from_middle, boxedZ, reachedZ, windZ, near_rule, past_middle}
 
 -- ---- the laws
-small : (s t : Bool) → IsWinding (cond s (cond t (pos 1) (pos 0)) (pos 0))
-small true true = inr (inr refl)
-small true false = inr (inl refl)
-small false t = inr (inl refl)
-
-same_closed : (b : Rect) (p q : Point) → Same p q → closed b q ≡ closed b p
-same_closed b p q s =
-    let X : Alike q.x p.x = alike_sym s.x in
-    let Y : Alike q.y p.y = alike_sym s.y in
-    λ i. zeros_agree.of_le b.x0 b.x0 q.x p.x (alike_refl _) X i
-    && (zeros_agree.of_le q.x p.x b.x1 b.x1 X (alike_refl _) i
-    && (zeros_agree.of_le b.y0 b.y0 q.y p.y (alike_refl _) Y i
-    && zeros_agree.of_le q.y p.y b.y1 b.y1 Y (alike_refl _) i))
-
 same_radius : (k : RoundedRectRadii) (v w : Vec2) → SameVec v w → radius_at k v ≡ radius_at k w
 same_radius k v w s =
     let X : le zero v.x ≡ le zero w.x = zeros_agree.of_le zero zero v.x w.x (alike_refl zero) s.x in
@@ -63,29 +49,8 @@ same_reached s p q e =
     let w = from_to (middle s.rect) p in
     ap (λ (r : Float). reaches s.rect r v) (same_radius s.radii v w V) ∙ same_reaches s.rect (radius_at s.radii w) v w V
 
-closed_in : (b : Rect) (p : Point) → T (closed b p) → InBox b p
-closed_in b p t =
-    let A = le b.x0 p.x in
-    let B = le p.x b.x1 in
-    let C = le b.y0 p.y in
-    let D = le p.y b.y1 in
-    record {
-      left = and_l A (B && (C && D)) t;
-      right = and_l B (C && D) (and_r A (B && (C && D)) t);
-      low = and_l C D (and_r B (C && D) (and_r A (B && (C && D)) t));
-      high = and_r C D (and_r B (C && D) (and_r A (B && (C && D)) t));
-    }
-
-held : (s : Bool) (w : ℤ) → (cond s w (pos 0) ≢ pos 0) → T s
-held true w n = tt
-held false w n = absurd (n refl)
-
 pub rounded_lawful : (s : RoundedRect) (p : Point) → Lawful (wind s) (box s.rect) p
-rounded_lawful s p = record {
-  small = small (closed (box s.rect) p) (reached s p);
-  same = λ q e. λ i. cond (same_closed (box s.rect) p q e i) (cond (same_reached s p q e i) (pos 1) (pos 0)) (pos 0);
-  boxed = λ f g n. closed_in (box s.rect) p (held (closed (box s.rect) p) _ n);
-}
+rounded_lawful s p = enclosed_lawful (box s.rect) (reached s) (same_reached s) p
 
 -- ---- on the grid
 -- a coordinate, counted from the middle of a side

@@ -2,10 +2,18 @@
 use Rattle.std.specs.Prelude.{Bool, false, ◌&&◌, ℤ, Float}
 use Rattle.std.specs.Float.{float_with_sign, float_min, float_is_finite}
 use Rattle.floats.specs.Page.{Grid}
+use Rattle.plane.specs.declared.fault.Corner.{Corner}
+use Rattle.plane.specs.declared.fault.Corner.TheVariants.{TopLeft, TopRight, BottomRight, BottomLeft}
 use Rattle.rounded.specs.declared.rounded_rect_radii.RoundedRectRadii.{RoundedRectRadii}
 
 abbrev pub radii : Float → Float → Float → Float → RoundedRectRadii
 radii a b c d = record { top_left = a; top_right = b; bottom_right = c; bottom_left = d }
+
+abbrev pub radius_of : RoundedRectRadii → Corner → Float
+radius_of k TopLeft = k.top_left
+radius_of k TopRight = k.top_right
+radius_of k BottomRight = k.bottom_right
+radius_of k BottomLeft = k.bottom_left
 
 -- each without its sign
 abbrev pub sizes : RoundedRectRadii → RoundedRectRadii

@@ -1,5 +1,5 @@
 -- Rounded rectangles: how they are made, their area, length and winding as computed, for all floats; which are sound; and those on the grid. Assumes nothing.
-use Rattle.std.specs.Prelude.{Bool, false, cond, not, ◌&&◌, T, ℤ, pos, from_bits, is_nan, Float}
+use Rattle.std.specs.Prelude.{Bool, false, cond, not, T, ℤ, pos, from_bits, is_nan, Float}
 use Rattle.std.specs.Float.Ieee.{add, sub, mul, div, neg, le}
 use Rattle.std.specs.Float.{float_with_sign, float_min, float_max, binary64}
 use Rattle.std.specs.Int.{int_min, int_max}
@@ -7,7 +7,7 @@ use Rattle.floats.specs.Value.{In}
 use Rattle.plane.specs.declared.point.Point.{Point}
 use Rattle.plane.specs.declared.rect.Rect.{Rect}
 use Rattle.plane.specs.declared.vec2.Vec2.{Vec2}
-use Rattle.plane.specs.Rects.{box, GridRect}
+use Rattle.plane.specs.Rects.{box, closed, GridRect}
 use Rattle.plane.specs.Rects as Rects
 use Rattle.plane.specs.Vectors.{point, from_to}
 use Rattle.rounded.specs.declared.rounded_rect.RoundedRect.{RoundedRect}
@@ -108,10 +108,6 @@ length_of s =
     add binary64 (mul binary64 two (add binary64 (float_with_sign false (width s.rect)) (float_with_sign false (height s.rect)))) (total corner_length s.radii)
 
 -- ---- the winding
--- p lies in the closed box b
-abbrev pub closed : Rect → Point → Bool
-closed b p = le b.x0 p.x && (le p.x b.x1 && (le b.y0 p.y && le p.y b.y1))
-
 -- the radius of the corner towards which v leads from the centre
 abbrev pub radius_at : RoundedRectRadii → Vec2 → Float
 radius_at k v = cond (le zero v.y) (cond (le zero v.x) k.bottom_right k.bottom_left) (cond (le zero v.x) k.top_right k.top_left)

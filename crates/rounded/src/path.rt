@@ -1,7 +1,9 @@
 //! A rounded rectangle behind the interface of shapes, and its path.
 ghost use Rattle.std.specs.Prelude.{◌≡◌};
+ghost use Rattle.std.specs.Iterator.{YieldsFirst, item_count};
+ghost use Rattle.std.proofs.Common.{rules};
 ghost use Rattle.rounded.specs.Roundings.{wind as rounded_wind};
-ghost use Rattle.rounded.specs.Outlines.{frame as rounded_frame, drawn as rounded_drawn, rest as path_rest, all_finite, corner_arc, arc_0, arc_1, arc_2, arc_3, Rounds, start_of, top_end, right_end, bottom_end};
+ghost use Rattle.rounded.specs.Outlines.{frame as rounded_frame, drawn as rounded_drawn, rest as path_rest, all_finite, quarter_arc, corner_arc as arc_at, corner_start as start_at, Rounds};
 ghost use Rattle.rounded.specs.Corners.{rounded_lawful};
 ghost use Rattle.rounded.specs.Outlined.{rounded_formed};
 
@@ -9,10 +11,10 @@ use super::rounded_rect::RoundedRect;
 use arcs::arc::{Arc, ArcPath};
 use plane::bezpath::PathEl;
 use plane::cursor::Cursor;
-use plane::fault::{CornerFault, ShapeFault};
+use plane::fault::{Corner, CornerFault, ShapeFault};
 use plane::point::Point;
 use plane::rect::Rect;
-use plane::shape::{Shape, is_tolerance};
+use plane::shape::{Shape, check_drawable};
 use plane::vec2::Vec2;
 use std::f64::consts::FRAC_PI_2;
 
@@ -28,6 +30,7 @@ enum Stage {
 }
 
 /// A cursor on a rounded rectangle's path: each corner's curves, and the sides between them.
+// It keeps its own stage: a chain of iterators would have the whole path in its type.
 #[derive(Clone, Copy)]
 pub struct RoundedRectPath {
     of: RoundedRect,
@@ -38,46 +41,54 @@ pub struct RoundedRectPath {
     bottom_left: ArcPath,
 }
 
+impl Iterator for RoundedRectPath {
+    type Item = PathEl;
+
+    ghost next_gives = { YieldsFirst path_rest };
+
+    ghost remaining = { item_count path_rest };
+
+    fn next(&mut self) -> Option<PathEl> {
+        // The corner's next curve, and what comes after its last one: the element and the stage.
+        let (curve, after, stage) = match self.stage {
+            Stage::Start => (
+                None,
+                PathEl::MoveTo(self.of.corner_start(Corner::TopLeft)),
+                Stage::TopLeft,
+            ),
+            Stage::TopLeft => (
+                self.top_left.next(),
+                PathEl::LineTo(self.of.corner_start(Corner::TopRight)),
+                Stage::TopRight,
+            ),
+            Stage::TopRight => (
+                self.top_right.next(),
+                PathEl::LineTo(self.of.corner_start(Corner::BottomRight)),
+                Stage::BottomRight,
+            ),
+            Stage::BottomRight => (
+                self.bottom_right.next(),
+                PathEl::LineTo(self.of.corner_start(Corner::BottomLeft)),
+                Stage::BottomLeft,
+            ),
+            Stage::BottomLeft => (self.bottom_left.next(), PathEl::ClosePath, Stage::Done),
+            Stage::Done => return None,
+        };
+        if curve.is_none() {
+            self.stage = stage;
+        }
+        curve.or(Some(after))
+    }
+}
+
 impl Cursor for RoundedRectPath {
     ghost rest = { path_rest };
 
-    fn next(&mut self) -> Option<PathEl> {
-        match self.stage {
-            Stage::Start => {
-                self.stage = Stage::TopLeft;
-                Some(PathEl::MoveTo(start_point(self.of)))
-            }
-            Stage::TopLeft => {
-                if let Some(el) = self.top_left.next() {
-                    return Some(el);
-                }
-                self.stage = Stage::TopRight;
-                Some(PathEl::LineTo(top_point(self.of)))
-            }
-            Stage::TopRight => {
-                if let Some(el) = self.top_right.next() {
-                    return Some(el);
-                }
-                self.stage = Stage::BottomRight;
-                Some(PathEl::LineTo(right_point(self.of)))
-            }
-            Stage::BottomRight => {
-                if let Some(el) = self.bottom_right.next() {
-                    return Some(el);
-                }
-                self.stage = Stage::BottomLeft;
-                Some(PathEl::LineTo(bottom_point(self.of)))
-            }
-            Stage::BottomLeft => {
-                if let Some(el) = self.bottom_left.next() {
-                    return Some(el);
-                }
-                self.stage = Stage::Done;
-                Some(PathEl::ClosePath)
-            }
-            Stage::Done => None,
-        }
-    }
+    ghost ready = { λ c. tt };
+
+    ghost steps = { λ c d el s. s };
+
+    ghost ends = { Prim.search rules };
 }
 
 impl Shape for RoundedRect {
@@ -106,47 +117,67 @@ impl Shape for RoundedRect {
     }
 
     fn path_elements(&self, tolerance: f64) -> Result<RoundedRectPath, ShapeFault> {
-        if !is_tolerance(tolerance) {
-            return Err(ShapeFault::Tolerance);
-        }
-        if !has_finite_numbers(*self) {
-            return Err(ShapeFault::NotFinite);
-        }
-        let top_left = rounding(top_left_arc(*self), 0, tolerance)?;
-        let top_right = rounding(top_right_arc(*self), 1, tolerance)?;
-        let bottom_right = rounding(bottom_right_arc(*self), 2, tolerance)?;
-        let bottom_left = rounding(bottom_left_arc(*self), 3, tolerance)?;
+        check_drawable(tolerance, self.has_finite_numbers())?;
         Ok(RoundedRectPath {
             of: *self,
             stage: Stage::Start,
-            top_left,
-            top_right,
-            bottom_right,
-            bottom_left,
+            top_left: self.corner_curves(Corner::TopLeft, tolerance)?,
+            top_right: self.corner_curves(Corner::TopRight, tolerance)?,
+            bottom_right: self.corner_curves(Corner::BottomRight, tolerance)?,
+            bottom_left: self.corner_curves(Corner::BottomLeft, tolerance)?,
         })
     }
 }
 
-// Whether all sides and radii are finite.
-const fn has_finite_numbers(s: RoundedRect) -> bool
-    ensures { result ≡ all_finite s }
-{
-    s.rect().is_finite() && s.radii().is_finite()
-}
+impl RoundedRect {
+    // Whether all sides and radii are finite.
+    const fn has_finite_numbers(&self) -> bool
+        ensures { result ≡ all_finite self.now }
+    {
+        self.rect().is_finite() && self.radii().is_finite()
+    }
 
-// The curves of a corner's arc. A fault names the corner.
-fn rounding(arc: Arc, corner: u8, tolerance: f64) -> Result<ArcPath, CornerFault>
-    ensures { Rounds arc corner tolerance result }
-{
-    match arc.append_iter(tolerance) {
-        Ok(curves) => Ok(curves),
-        Err(fault) => Err(CornerFault { corner, fault }),
+    // The curves of a corner's arc. A fault names the corner.
+    fn corner_curves(&self, corner: Corner, tolerance: f64) -> Result<ArcPath, CornerFault>
+        ensures { Rounds self.now corner tolerance result }
+    {
+        self.corner_arc(corner)
+            .append_iter(tolerance)
+            .map_err(|fault| CornerFault { corner, fault })
+    }
+
+    // The arc that rounds a corner.
+    const fn corner_arc(&self, corner: Corner) -> Arc
+        ensures { result ≡ arc_at self.now corner }
+    {
+        let Rect { x0, y0, x1, y1 } = self.rect();
+        let r = self.radii().at(corner);
+        match corner {
+            Corner::TopLeft => quarter_circle(x0 + r, y0 + r, r, 2),
+            Corner::TopRight => quarter_circle(x1 - r, y0 + r, r, 3),
+            Corner::BottomRight => quarter_circle(x1 - r, y1 - r, r, 0),
+            Corner::BottomLeft => quarter_circle(x0 + r, y1 - r, r, 1),
+        }
+    }
+
+    // Where a corner's arc begins, and the side before it ends.
+    const fn corner_start(&self, corner: Corner) -> Point
+        ensures { result ≡ start_at self.now corner }
+    {
+        let Rect { x0, y0, x1, y1 } = self.rect();
+        let r = self.radii().at(corner);
+        match corner {
+            Corner::TopLeft => Point::new(x0, y0 + r),
+            Corner::TopRight => Point::new(x1 - r, y0),
+            Corner::BottomRight => Point::new(x1, y1 - r),
+            Corner::BottomLeft => Point::new(x0 + r, y1),
+        }
     }
 }
 
 // A quarter of the circle about (x, y), from the quarter turn `from` on.
-const fn corner(x: f64, y: f64, radius: f64, from: u8) -> Arc
-    ensures { result ≡ corner_arc x y radius from }
+const fn quarter_circle(x: f64, y: f64, radius: f64, from: u8) -> Arc
+    ensures { result ≡ quarter_arc x y radius from }
 {
     Arc {
         center: Point::new(x, y),
@@ -155,57 +186,4 @@ const fn corner(x: f64, y: f64, radius: f64, from: u8) -> Arc
         sweep_angle: FRAC_PI_2,
         x_rotation: 0.0,
     }
-}
-
-const fn top_left_arc(s: RoundedRect) -> Arc
-    ensures { result ≡ arc_0 s }
-{
-    let r = s.radii().top_left;
-    corner(s.rect().x0 + r, s.rect().y0 + r, r, 2)
-}
-
-const fn top_right_arc(s: RoundedRect) -> Arc
-    ensures { result ≡ arc_1 s }
-{
-    let r = s.radii().top_right;
-    corner(s.rect().x1 - r, s.rect().y0 + r, r, 3)
-}
-
-const fn bottom_right_arc(s: RoundedRect) -> Arc
-    ensures { result ≡ arc_2 s }
-{
-    let r = s.radii().bottom_right;
-    corner(s.rect().x1 - r, s.rect().y1 - r, r, 0)
-}
-
-const fn bottom_left_arc(s: RoundedRect) -> Arc
-    ensures { result ≡ arc_3 s }
-{
-    let r = s.radii().bottom_left;
-    corner(s.rect().x0 + r, s.rect().y1 - r, r, 1)
-}
-
-// Where the path begins, and where its sides along the top, the right and the bottom end.
-const fn start_point(s: RoundedRect) -> Point
-    ensures { result ≡ start_of s }
-{
-    Point::new(s.rect().x0, s.rect().y0 + s.radii().top_left)
-}
-
-const fn top_point(s: RoundedRect) -> Point
-    ensures { result ≡ top_end s }
-{
-    Point::new(s.rect().x1 - s.radii().top_right, s.rect().y0)
-}
-
-const fn right_point(s: RoundedRect) -> Point
-    ensures { result ≡ right_end s }
-{
-    Point::new(s.rect().x1, s.rect().y1 - s.radii().bottom_right)
-}
-
-const fn bottom_point(s: RoundedRect) -> Point
-    ensures { result ≡ bottom_end s }
-{
-    Point::new(s.rect().x0 + s.radii().bottom_left, s.rect().y1)
 }

@@ -18,7 +18,7 @@ use std::f64::consts::{FRAC_PI_2, FRAC_PI_4};
 
 /// A rectangle with rounded corners. Where its sides are finite, none is reversed, and no radius is below 0
 /// or above half the shorter one: what makes one sees to that.
-#[derive(Clone, Copy)]
+#[derive(Clone, Copy, Debug, PartialEq)]
 pub struct RoundedRect {
     rect: Rect,
     radii: RoundedRectRadii,
@@ -33,7 +33,7 @@ impl RoundedRect {
         ensures always { Repaired result }
         ensures grid { (a b c d i j k l : ℤ) → GridRect (rectangle x0 y0 x1 y1) a b c d → GridRadii radii i j k l → MadeOnGrid result a b c d i j k l }
     {
-        repaired_between(x0, y0, x1, y1, radii)
+        RoundedRect::from_rect(Rect::new(x0, y0, x1, y1), radii)
     }
 
     /// The rectangle, rounded by these radii: no side reversed, and each radius by its size, up to half the
@@ -44,7 +44,12 @@ impl RoundedRect {
         ensures always { Repaired result }
         ensures grid { (a b c d i j k l : ℤ) → GridRect rect a b c d → GridRadii radii i j k l → MadeOnGrid result a b c d i j k l }
     {
-        repaired(rect, radii)
+        let b = rect.abs();
+        let shorter = lesser(b.width(), b.height());
+        RoundedRect {
+            rect: b,
+            radii: radii.abs().clamp(shorter / 2.0),
+        }
     }
 
     /// The width.
@@ -72,8 +77,7 @@ impl RoundedRect {
     pub const fn rect(&self) -> Rect
         ensures { result ≡ self.now.rect }
     {
-        let RoundedRect { rect, .. } = *self;
-        rect
+        self.rect
     }
 
     /// The centre.
@@ -128,9 +132,8 @@ impl RoundedRect {
     fn wind(&self, pt: Point) -> i32
         ensures { result ≡ winds self.now pt }
     {
-        let b = self.bounding_box();
-        if b.x0 <= pt.x && pt.x <= b.x1 && b.y0 <= pt.y && pt.y <= b.y1 {
-            if self.reaches(pt) { 1 } else { 0 }
+        if self.bounding_box().encloses(pt) && self.reaches(pt) {
+            1
         } else {
             0
         }
@@ -148,45 +151,15 @@ impl RoundedRect {
     }
 }
 
-// The rounded rectangle between two corners, as the definition computes it.
-const fn repaired_between(
-    x0: f64,
-    y0: f64,
-    x1: f64,
-    y1: f64,
-    radii: RoundedRectRadii,
-) -> RoundedRect
-    ensures { result ≡ made_of (rectangle x0 y0 x1 y1) radii }
-{
-    repaired(Rect::new(x0, y0, x1, y1), radii)
-}
-
-// The rounded rectangle, as the definition computes it.
-const fn repaired(rect: Rect, radii: RoundedRectRadii) -> RoundedRect
-    ensures { result ≡ made_of rect radii }
-{
-    let b = rect.abs();
-    let shorter = lesser(b.width(), b.height());
-    RoundedRect {
-        rect: b,
-        radii: radii.abs().clamp(shorter / 2.0),
-    }
-}
-
 // The radius of the corner towards which `v` leads from the centre.
 fn radius_at(radii: RoundedRectRadii, v: Vec2) -> f64
     ensures { result ≡ radius_for radii v }
 {
-    if v.y >= 0.0 {
-        if v.x >= 0.0 {
-            radii.bottom_right
-        } else {
-            radii.bottom_left
-        }
-    } else if v.x >= 0.0 {
-        radii.top_right
-    } else {
-        radii.top_left
+    match (v.y >= 0.0, v.x >= 0.0) {
+        (true, true) => radii.bottom_right,
+        (true, false) => radii.bottom_left,
+        (false, true) => radii.top_right,
+        (false, false) => radii.top_left,
     }
 }
 
@@ -197,7 +170,8 @@ const fn past(half: f64, radius: f64, x: f64) -> f64
     greater(x.abs() - greater(half - radius, 0.0), 0.0)
 }
 
-// What the corners add to the area: negative. The sum starts at -0.0, which leaves any first summand as it is.
+// What the corners add to the area: negative. The sum starts at -0.0, which leaves any first summand as it is. It is
+// written out twice, here and for the length, since a `const fn` calls no closure.
 const fn corners_area(radii: RoundedRectRadii) -> f64
     ensures { result ≡ total corner_area radii }
 {

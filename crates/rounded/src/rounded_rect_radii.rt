@@ -1,11 +1,12 @@
 //! The radii of the corners of a rounded rectangle.
 ghost use Rattle.std.specs.Prelude.{◌≡◌};
-ghost use Rattle.rounded.specs.Radii.{radii, sizes, at_most, all_finite};
+ghost use Rattle.rounded.specs.Radii.{radii, radius_of, sizes, at_most, all_finite};
 
 use floats::order::lesser;
+use plane::fault::Corner;
 
 /// A radius for each corner of a rounded rectangle. The top is where y is smaller.
-#[derive(Clone, Copy)]
+#[derive(Clone, Copy, Debug, PartialEq)]
 pub struct RoundedRectRadii {
     /// The radius of the top left corner.
     pub top_left: f64,
@@ -39,13 +40,22 @@ impl RoundedRectRadii {
     pub const fn from_single_radius(radius: f64) -> RoundedRectRadii
         ensures { result ≡ radii radius radius radius radius }
     {
-        RoundedRectRadii {
-            top_left: radius,
-            top_right: radius,
-            bottom_right: radius,
-            bottom_left: radius,
+        RoundedRectRadii::new(radius, radius, radius, radius)
+    }
+
+    // The radius of a corner.
+    pub(crate) const fn at(&self, corner: Corner) -> f64
+        ensures { result ≡ radius_of self.now corner }
+    {
+        match corner {
+            Corner::TopLeft => self.top_left,
+            Corner::TopRight => self.top_right,
+            Corner::BottomRight => self.bottom_right,
+            Corner::BottomLeft => self.bottom_left,
         }
     }
+
+    // A `const fn` calls no closure, so the next two name each radius.
 
     /// The size of each radius.
     pub const fn abs(&self) -> RoundedRectRadii

@@ -1,6 +1,6 @@
 -- Circles: their box and winding as computed, for all floats; and the rule on the grid, over whole numbers. Assumes nothing.
 use Rattle.std.specs.Prelude.{◌≡◌, ℕ, zero, suc, ◌-◌, Bool, false, cond, not, ◌&&◌, T, List, [], ◌∷◌, ℤ, pos, ◌+ℤ◌, ◌-ℤ◌, ◌*ℤ◌, ◌<ℤ◌, None, Ok, Err, Result, ◌==◌, from_bits, Float}
-use Rattle.std.specs.Float.Ieee.{of_int, add, sub, mul, div, lt, le, fits, to_unsigned}
+use Rattle.std.specs.Float.Ieee.{of_int, add, sub, mul, div, lt, fits, to_unsigned}
 use Rattle.std.specs.Float.{float_with_sign, float_is_finite, ceil, binary64}
 use Rattle.elementary.specs.SixthRoots.{sixth_root_of}
 use Rattle.elementary.specs.Angles.{half_pi, sin_cos, tangent}
@@ -12,7 +12,7 @@ use Rattle.plane.specs.Rects.{rect}
 use Rattle.plane.specs.declared.bezpath.PathEl.{PathEl}
 use Rattle.plane.specs.declared.bezpath.PathEl.TheVariants.{MoveTo, CurveTo, ClosePath}
 use Rattle.plane.specs.declared.fault.ShapeFault.TheVariants.{TooFine}
-use Rattle.plane.specs.Paths.{Drawn, checked}
+use Rattle.plane.specs.Paths.{Drawn, checked, stretched, fine_enough as fine}
 use Rattle.plane.specs.Vectors.{point, from_to, dot}
 use Rattle.plane.specs.Winding.{Gives}
 use Rattle.shapes.specs.declared.circle.Circle.{Circle}
@@ -55,12 +55,9 @@ length_of c = float_with_sign false (mul binary64 (mul binary64 two π) c.radius
 abbrev pub all_finite : Circle → Bool
 all_finite c = float_is_finite c.center.x && (float_is_finite c.center.y && float_is_finite c.radius)
 
--- the size of the radius in tolerances, and times 1.1163
+-- the size of the radius in tolerances
 abbrev pub scaled_error : Circle → Float → Float
 scaled_error c t = div binary64 (float_with_sign false c.radius) t
-
-abbrev pub stretched : Circle → Float → Float
-stretched c t = mul binary64 (from_bits binary64 0x3ff1_dc5d_6388_6595) (scaled_error c t)
 
 -- four curves do where the size is below 1 / 1.9608e-4 tolerances
 abbrev pub coarse : Circle → Float → Bool
@@ -68,7 +65,7 @@ coarse c t = lt (scaled_error c t) (div binary64 (from_bits binary64 0x3ff0_0000
 
 -- how many curves, and how long their arms are: 0.551915024494, or 4 / 3 of a tangent
 abbrev pub curve_count : Circle → Float → ℕ
-curve_count c t = cond (coarse c t) 4 (to_unsigned 32 (ceil binary64 (sixth_root_of (stretched c t))))
+curve_count c t = cond (coarse c t) 4 (to_unsigned 32 (ceil binary64 (sixth_root_of (stretched (scaled_error c t)))))
 
 abbrev pub fine_arm : ℕ → Float
 fine_arm n = mul binary64 (div binary64 (from_bits binary64 0x4010_0000_0000_0000) (from_bits binary64 0x4008_0000_0000_0000)) (tangent (div binary64 half_pi (of_int binary64 (pos n))))
@@ -115,7 +112,7 @@ path c a n = start c ∷ curves c (step_of n) a n 1 n
 
 -- TOO FINE where 1.1163 × the size in tolerances is above 2 ^ 36, or not-a-number
 abbrev pub fine_enough : Circle → Float → Bool
-fine_enough c t = le (stretched c t) (from_bits binary64 0x4230_0000_0000_0000)
+fine_enough c t = fine (scaled_error c t)
 
 -- the curves that a tolerance asks for, or the refusal
 abbrev pub Divides : Circle → Float → Result Division ArcFault → Type 0

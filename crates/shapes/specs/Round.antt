@@ -1,12 +1,12 @@
 -- The winding of a circle keeps the laws of windings, and is the whole-number rule on the grid. Assumes nothing.
-use Rattle.std.specs.Prelude.{◌≡◌, ℕ, zero, suc, ◌+◌, ◌-◌, ◌≤◌, Bool, true, false, cond, ◌&&◌, T, ℤ, pos, ◌+ℤ◌, ◌-ℤ◌, ◌*ℤ◌, ◌<ℤ◌, Some, None, Ok, Err, ◌≢◌, int_lt, unsigned_abs, refl, Float}
+use Rattle.std.specs.Prelude.{◌≡◌, ◌∷◌, ℕ, zero, suc, ◌+◌, ◌-◌, ◌≤◌, Bool, true, false, cond, ◌&&◌, T, ℤ, pos, ◌+ℤ◌, ◌-ℤ◌, ◌*ℤ◌, ◌<ℤ◌, None, Ok, Err, ◌≢◌, int_lt, unsigned_abs, refl, Float}
 use Rattle.std.proofs.Common.{sym, ap, ◌∙◌, subst, inl, inr, arith, lit<, lit≤, lt_of_le_of_lt}
 use Rattle.std.proofs.Math.Dec.{not_T}
 use Rattle.std.specs.Float.Ieee.Fits.{and_l, and_r}
 use Rattle.floats.proofs.Canonical.{canonical, equal_sub, equal_le, le_equal}
 use Rattle.plane.specs.declared.fault.ShapeFault.TheVariants.{TooFine}
 use Rattle.plane.specs.declared.bezpath.PathEl.{PathEl}
-use Rattle.plane.specs.Paths.{Steps, formed, WellDrawn}
+use Rattle.plane.specs.Paths.{formed, WellDrawn}
 use Rattle.plane.specs.Formed.{checked_well}
 use Rattle.std.specs.Float.Ieee.{add, sub, mul, neg, lt, fits}
 use Rattle.std.specs.Float.Ieee.Scale.{finite}
@@ -125,13 +125,12 @@ circle_lawful c p = record {
 
 -- ---- the path
 -- one curve less
-pub next_curve : (c : Circle) (step a : Float) (n i : ℕ) (e : PathEl) → i ≤ n → e ≡ curve c step a n i → Steps (curves c step a n i (suc n - i)) (Some e) (curves c step a n (i + 1) (suc n - (i + 1)))
+pub next_curve : (c : Circle) (step a : Float) (n i : ℕ) (e : PathEl) → i ≤ n → e ≡ curve c step a n i → curves c step a n i (suc n - i) ≡ e ∷ curves c step a n (i + 1) (suc n - (i + 1))
 next_curve c step a n i e h q =
     let left : suc n - i ≡ suc (n - i) = omega arith in
     let after : suc n - (i + 1) ≡ n - i = omega arith in
     let next : i + 1 ≡ suc i = omega arith in
-    let P : ℕ → Type 0 = λ m. Steps (curves c step a n i m) (Some e) (curves c step a n (i + 1) (suc n - (i + 1))) in
-    subst P (sym left) (ap Some q, (λ j. curves c step a n (next j) (after j)))
+    ap (curves c step a n i) left ∙ sym (λ j. q j ∷ curves c step a n (next j) (after j))
 
 curves_formed : (c : Circle) (step a : Float) (n i more : ℕ) → T (formed true (curves c step a n i more))
 unfolding curve

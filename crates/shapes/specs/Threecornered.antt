@@ -3,7 +3,6 @@ use Rattle.std.specs.Prelude.{◌≡◌, Bool, true, false, cond, ◌&&◌, T, �
 use Rattle.std.proofs.Common.{sym, ◌∙◌, subst, inl, inr, lit≤, arith}
 use Rattle.std.specs.Float.{binary64}
 use Rattle.std.specs.Float.Ieee.{of_bits, mul, lt, le, eq}
-use Rattle.std.specs.Float.Ieee.Fits.{and_l, and_r}
 use Rattle.std.specs.Int.{int_min, int_max}
 use Rattle.std.proofs.lemmas.Int.{ints}
 use Rattle.floats.specs.Value.{In, Val}
@@ -12,18 +11,19 @@ use Rattle.floats.proofs.Alike.{zeros_agree}
 use Rattle.floats.proofs.Compared.{eqZ}
 use Rattle.floats.proofs.Bounded.{in_sub, in_mul, in_lt, in_le, in_eq, in_min, in_max}
 use Rattle.plane.specs.declared.point.Point.{Point}
-use Rattle.plane.specs.declared.rect.Rect.{Rect}
-use Rattle.plane.specs.Points.{GridPoint, Same, InBox}
+use Rattle.plane.specs.Points.{GridPoint, Same}
 use Rattle.plane.specs.Rects.{Sides}
 use Rattle.plane.specs.Vectors.{from_to}
 use Rattle.plane.specs.Paths.{WellDrawn}
 use Rattle.plane.specs.Formed.{checked_well}
 use Rattle.plane.specs.Winding.{IsWinding, Lawful}
-use Rattle.plane.specs.Equals.{alike_refl, alike_sym, vec_refl, to_same, cross_same}
+use Rattle.plane.specs.Rects.{closed}
+use Rattle.plane.specs.Enclosed.{same_closed, closed_in}
+use Rattle.plane.specs.Equals.{alike_refl, vec_refl, to_same, cross_same}
 use Rattle.shapes.specs.declared.triangle.Triangle.{Triangle}
 use Rattle.shapes.specs.Corners.{twice_area, RuleOfTriangle}
 use Rattle.shapes.specs.Means.{turnZ, agreedZ, boxedZ, windZ, whole_rule}
-use Rattle.shapes.specs.Triangles.{zero, half, area2, box, closed, side, agreed, wind, GridTriangle, path, all_finite, drawn}
+use Rattle.shapes.specs.Triangles.{zero, half, area2, box, side, agreed, wind, GridTriangle, path, all_finite, drawn}
 
 -- ---- the laws
 agreed_small : (s t u : Float) → IsWinding (agreed s t u)
@@ -39,15 +39,6 @@ small true t w h = inr (inl refl)
 small false true w h = h
 small false false w h = inr (inl refl)
 
-same_closed : (b : Rect) (p q : Point) → Same p q → closed b q ≡ closed b p
-same_closed b p q s =
-    let X : Alike q.x p.x = alike_sym s.x in
-    let Y : Alike q.y p.y = alike_sym s.y in
-    λ i. zeros_agree.of_le b.x0 b.x0 q.x p.x (alike_refl _) X i
-    && (zeros_agree.of_le q.x p.x b.x1 b.x1 X (alike_refl _) i
-    && (zeros_agree.of_le b.y0 b.y0 q.y p.y (alike_refl _) Y i
-    && zeros_agree.of_le q.y p.y b.y1 b.y1 Y (alike_refl _) i))
-
 same_side : (a b p q : Point) → Same p q → Alike (side a b q) (side a b p)
 same_side a b p q s = cross_same _ _ _ _ (vec_refl (from_to a b)) (to_same a p q s)
 
@@ -56,19 +47,6 @@ same_agreed s s' t t' u u' p q r =
     let z = alike_refl zero in
     λ i. cond (zeros_agree.of_le zero zero s s' z p i && (zeros_agree.of_le zero zero t t' z q i && zeros_agree.of_le zero zero u u' z r i)) (pos 1)
     (cond (zeros_agree.of_lt s s' zero zero p z i && (zeros_agree.of_lt t t' zero zero q z i && zeros_agree.of_lt u u' zero zero r z i)) (negsuc 0) (pos 0))
-
-closed_in : (b : Rect) (p : Point) → T (closed b p) → InBox b p
-closed_in b p t =
-    let A = le b.x0 p.x in
-    let B = le p.x b.x1 in
-    let C = le b.y0 p.y in
-    let D = le p.y b.y1 in
-    record {
-      left = and_l A (B && (C && D)) t;
-      right = and_l B (C && D) (and_r A (B && (C && D)) t);
-      low = and_l C D (and_r B (C && D) (and_r A (B && (C && D)) t));
-      high = and_r C D (and_r B (C && D) (and_r A (B && (C && D)) t));
-    }
 
 held : (s t : Bool) (w : ℤ) → (cond s (pos 0) (cond t w (pos 0)) ≢ pos 0) → T t
 held true t w n = absurd (n refl)

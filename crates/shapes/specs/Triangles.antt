@@ -1,17 +1,16 @@
 -- Triangles: their box and winding as computed, for all floats. Assumes nothing.
-use Rattle.std.specs.Prelude.{Bool, cond, ◌&&◌, List, [], ◌∷◌, drop, ℤ, pos, negsuc, Ok, from_bits, Float}
+use Rattle.std.specs.Prelude.{Bool, cond, ◌&&◌, List, [], ◌∷◌, ℤ, pos, negsuc, Ok, from_bits, Float}
 use Rattle.std.specs.Float.Ieee.{add, lt, le, eq}
 use Rattle.std.specs.Float.{float_min, float_max, binary64}
 use Rattle.plane.specs.declared.point.Point.{Point}
 use Rattle.plane.specs.declared.rect.Rect.{Rect}
 use Rattle.plane.specs.Points.{GridPoint}
-use Rattle.plane.specs.Rects.{rect}
+use Rattle.plane.specs.Rects.{rect, closed}
 use Rattle.plane.specs.declared.bezpath.PathEl.{PathEl}
-use Rattle.plane.specs.declared.bezpath.PathEl.TheVariants.{MoveTo, LineTo, ClosePath}
+use Rattle.plane.specs.Outlines.{outline}
 use Rattle.plane.specs.Paths.{Drawn, checked}
 use Rattle.plane.specs.Vectors.{from_to, cross, long, finite_point}
 use Rattle.shapes.specs.declared.triangle.Triangle.{Triangle}
-use Rattle.shapes.specs.declared.triangle.TrianglePath.{TrianglePath}
 
 abbrev pub triangle : Point → Point → Point → Triangle
 triangle a b c = record { a = a; b = b; c = c }
@@ -30,10 +29,6 @@ abbrev pub box : Triangle → Rect
 box t =
     rect (float_min t.a.x (float_min t.b.x t.c.x)) (float_min t.a.y (float_min t.b.y t.c.y))
     (float_max t.a.x (float_max t.b.x t.c.x)) (float_max t.a.y (float_max t.b.y t.c.y))
-
--- p lies in the closed box b
-abbrev pub closed : Rect → Point → Bool
-closed b p = le b.x0 p.x && (le p.x b.x1 && (le b.y0 p.y && le p.y b.y1))
 
 -- on which side of the line from p to q the point r lies
 abbrev pub side : Point → Point → Point → Float
@@ -59,14 +54,10 @@ abbrev pub all_finite : Triangle → Bool
 all_finite t = finite_point t.a && (finite_point t.b && finite_point t.c)
 
 abbrev pub path : Triangle → List PathEl
-path t = MoveTo t.a ∷ LineTo t.b ∷ LineTo t.c ∷ ClosePath ∷ []
+path t = outline (t.a ∷ t.b ∷ t.c ∷ [])
 
 abbrev pub drawn : Triangle → Float → Drawn
 drawn t e = checked e (all_finite t) (Ok (path t))
-
--- what a cursor that has given `ix` elements has still to give
-abbrev pub rest : TrianglePath → List PathEl
-rest k = drop k.ix (path k.triangle)
 
 -- ---- on the grid
 -- the corners are (a, b), (c, d) and (e, f) in units of 1/256, and lie in the field

@@ -1,6 +1,8 @@
 //! A circle.
 ghost use Rattle.std.specs.Prelude.{◌≡◌, T, ℤ, pos, ◌+ℤ◌, ◌-ℤ◌, unsigned_abs};
 ghost use Rattle.std.specs.Float.{binary64};
+ghost use Rattle.std.specs.Iterator.{YieldsFirst, item_count};
+ghost use Rattle.std.proofs.Common.{rules};
 ghost use Rattle.std.specs.Float.Ieee.{fits, mul};
 ghost use Rattle.plane.specs.Points.{GridPoint};
 ghost use Rattle.plane.specs.Rects.{Sides};
@@ -16,15 +18,12 @@ use plane::cursor::Cursor;
 use plane::fault::{ArcFault, ShapeFault};
 use plane::point::Point;
 use plane::rect::Rect;
-use plane::shape::{Shape, is_tolerance};
+use plane::shape::{Shape, check_drawable, stretched};
 use std::f64::consts::{FRAC_PI_2, PI};
 use std::num::{nearest_u64_to_f64, saturating_f64_to_u32};
 
-// 2³⁶, above which a tolerance is too fine.
-const MOST_STRETCHED: f64 = 68719476736.0;
-
 /// A circle by its centre and radius. A radius below 0 counts by its size.
-#[derive(Clone, Copy)]
+#[derive(Clone, Copy, Debug, PartialEq)]
 pub struct Circle {
     /// The centre.
     pub center: Point,
@@ -94,7 +93,7 @@ struct Division {
     arm_len: f64,
 }
 
-/// Where a cursor on a circle's path stands.
+// Where a cursor on a circle's path stands: a stage of its own, as every cursor here has.
 #[derive(Clone, Copy)]
 enum CircleStage {
     Start,
@@ -114,26 +113,108 @@ pub struct CirclePath {
     stage: CircleStage,
 }
 
-impl Cursor for CirclePath {
-    ghost rest = { path_rest };
+impl Iterator for CirclePath {
+    type Item = PathEl;
+
+    ghost next_gives = { YieldsFirst path_rest };
+
+    ghost remaining = { item_count path_rest };
 
     fn next(&mut self) -> Option<PathEl> {
         match self.stage {
             CircleStage::Start => {
                 self.stage = CircleStage::Curves;
-                Some(start_of(self.circle))
+                Some(self.circle.start())
             }
             CircleStage::Curves => {
                 let ix = self.ix;
                 if ix <= self.n as u64 {
                     self.ix = ix + 1;
-                    Some(curve_at(self.circle, self.delta_th, self.arm_len, self.n, ix))
+                    Some(self.curve(ix))
                 } else {
                     self.stage = CircleStage::Done;
                     Some(PathEl::ClosePath)
                 }
             }
             CircleStage::Done => None,
+        }
+    }
+}
+
+impl Cursor for CirclePath {
+    ghost rest = { path_rest };
+
+    ghost ready = { λ c. tt };
+
+    ghost steps = { λ c d el s. s };
+
+    ghost ends = { Prim.search rules };
+}
+
+impl CirclePath {
+    // The curve `ix`, counted from 1. The last ends where the first began.
+    fn curve(&self, ix: u64) -> PathEl
+        ensures { result ≡ curve self.now.circle self.now.delta_th self.now.arm_len self.now.n ix }
+    {
+        let th1 = self.delta_th * nearest_u64_to_f64(ix);
+        let to = if ix == self.n as u64 {
+            (0.0, 1.0)
+        } else {
+            sin_cos(th1)
+        };
+        self.circle
+            .curve_between(self.arm_len, sin_cos(th1 - self.delta_th), to)
+    }
+}
+
+impl Circle {
+    // The first element of the path.
+    const fn start(self) -> PathEl
+        ensures { result ≡ start self }
+    {
+        PathEl::MoveTo(Point::new(self.center.x + self.radius, self.center.y))
+    }
+
+    // The point at (u, v) in radii from the centre.
+    const fn at(self, u: f64, v: f64) -> Point
+        ensures { result ≡ on_circle self u v }
+    {
+        Point::new(
+            self.center.x + self.radius * u,
+            self.center.y + self.radius * v,
+        )
+    }
+
+    // The curve between two angles, by their sines and cosines, with arms of length `a`.
+    const fn curve_between(self, a: f64, from: (f64, f64), to: (f64, f64)) -> PathEl
+        ensures { result ≡ curve_between self a from to }
+    {
+        let (s0, c0) = from;
+        let (s1, c1) = to;
+        PathEl::CurveTo(
+            self.at(c0 - a * s0, s0 + a * c0),
+            self.at(c1 + a * s1, s1 - a * c1),
+            self.at(c1, s1),
+        )
+    }
+
+    // The curves that a tolerance asks for: TOO FINE where they would be too many.
+    fn divide(self, tolerance: f64) -> Result<Division, ArcFault>
+        ensures { Divides self tolerance result }
+    {
+        let scaled_err = self.radius.abs() / tolerance;
+        let error = stretched(scaled_err)?;
+        if scaled_err < 1.0 / 1.9608e-4 {
+            Ok(Division {
+                n: 4,
+                arm_len: 0.551915024494,
+            })
+        } else {
+            let n = saturating_f64_to_u32(sixth_root(error).ceil());
+            Ok(Division {
+                n,
+                arm_len: fine_arm(n),
+            })
         }
     }
 }
@@ -164,13 +245,8 @@ impl Shape for Circle {
     }
 
     fn path_elements(&self, tolerance: f64) -> Result<CirclePath, ShapeFault> {
-        if !is_tolerance(tolerance) {
-            return Err(ShapeFault::Tolerance);
-        }
-        if !self.is_finite() {
-            return Err(ShapeFault::NotFinite);
-        }
-        let Division { n, arm_len } = divide(*self, tolerance)?;
+        check_drawable(tolerance, self.is_finite())?;
+        let Division { n, arm_len } = self.divide(tolerance)?;
         Ok(CirclePath {
             circle: *self,
             delta_th: 2.0 * PI / n as f64,
@@ -202,76 +278,9 @@ const fn square_about(center: Point, r: f64) -> Rect
     Rect::new(center.x - r, center.y - r, center.x + r, center.y + r)
 }
 
-// The first element of the path.
-const fn start_of(circle: Circle) -> PathEl
-    ensures { result ≡ start circle }
-{
-    PathEl::MoveTo(Point::new(circle.center.x + circle.radius, circle.center.y))
-}
-
-// The curves that a tolerance asks for: TOO FINE where they would be too many.
-fn divide(circle: Circle, tolerance: f64) -> Result<Division, ArcFault>
-    ensures { Divides circle tolerance result }
-{
-    let scaled_err = circle.radius.abs() / tolerance;
-    let stretched = 1.1163 * scaled_err;
-    if stretched <= MOST_STRETCHED {
-        if scaled_err < 1.0 / 1.9608e-4 {
-            Ok(Division {
-                n: 4,
-                arm_len: 0.551915024494,
-            })
-        } else {
-            let n = saturating_f64_to_u32(sixth_root(stretched).ceil());
-            Ok(Division {
-                n,
-                arm_len: fine_arm(n),
-            })
-        }
-    } else {
-        Err(ArcFault::TooFine)
-    }
-}
-
 // The length of the arms of n curves.
 fn fine_arm(n: u32) -> f64
     ensures { result ≡ arm_of n }
 {
     (4.0 / 3.0) * tan(FRAC_PI_2 / n as f64)
-}
-
-// The point of the circle's plane at (u, v) in radii from the centre.
-const fn at(circle: Circle, u: f64, v: f64) -> Point
-    ensures { result ≡ on_circle circle u v }
-{
-    Point::new(
-        circle.center.x + circle.radius * u,
-        circle.center.y + circle.radius * v,
-    )
-}
-
-// The curve between two angles, by their sines and cosines.
-const fn curve_by(circle: Circle, a: f64, from: (f64, f64), to: (f64, f64)) -> PathEl
-    ensures { result ≡ curve_between circle a from to }
-{
-    let (s0, c0) = from;
-    let (s1, c1) = to;
-    PathEl::CurveTo(
-        at(circle, c0 - a * s0, s0 + a * c0),
-        at(circle, c1 + a * s1, s1 - a * c1),
-        at(circle, c1, s1),
-    )
-}
-
-// The curve `ix` of `n`.
-fn curve_at(circle: Circle, delta_th: f64, a: f64, n: u32, ix: u64) -> PathEl
-    ensures { result ≡ curve circle delta_th a n ix }
-{
-    let th1 = delta_th * nearest_u64_to_f64(ix);
-    let to = if ix == n as u64 {
-        (0.0, 1.0)
-    } else {
-        sin_cos(th1)
-    };
-    curve_by(circle, a, sin_cos(th1 - delta_th), to)
 }

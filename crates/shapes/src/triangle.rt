@@ -8,20 +8,19 @@ ghost use Rattle.plane.specs.Points.{GridPoint};
 ghost use Rattle.plane.specs.Rects.{Sides};
 ghost use Rattle.plane.specs.Winding.{Lawful, nonzero};
 ghost use Rattle.shapes.specs.Triangles.{triangle, box, wind, area2, half, side as beside, agreed, length_of, all_finite, GridTriangle};
-ghost use Rattle.shapes.specs.Triangles.{box as triangle_box, wind as triangle_wind, drawn as triangle_drawn, rest as path_rest};
+ghost use Rattle.shapes.specs.Triangles.{box as triangle_box, wind as triangle_wind, drawn as triangle_drawn};
 ghost use Rattle.shapes.specs.Corners.{twice_area, RuleOfTriangle};
 ghost use Rattle.shapes.specs.Threecornered.{triangle_lawful, triangle_formed};
 
 use floats::order::{greater, lesser};
-use plane::bezpath::PathEl;
-use plane::cursor::Cursor;
+use plane::closed_path::ClosedPath;
 use plane::fault::ShapeFault;
 use plane::point::Point;
 use plane::rect::Rect;
-use plane::shape::{Shape, is_tolerance};
+use plane::shape::{Shape, check_drawable};
 
 /// A triangle by its corners. Its area is positive where a, b, c turn as (0, 0), (1, 0), (0, 1) do.
-#[derive(Clone, Copy)]
+#[derive(Clone, Copy, Debug, PartialEq)]
 pub struct Triangle {
     /// The corner a.
     pub a: Point,
@@ -113,8 +112,7 @@ impl Triangle {
         if side(self.a, self.b, self.c) == 0.0 {
             return 0;
         }
-        let b = self.corner_box();
-        if b.x0 <= pt.x && pt.x <= b.x1 && b.y0 <= pt.y && pt.y <= b.y1 {
+        if self.corner_box().encloses(pt) {
             agreed_sign(
                 side(self.a, self.b, pt),
                 side(self.b, self.c, pt),
@@ -126,32 +124,8 @@ impl Triangle {
     }
 }
 
-/// A cursor on a triangle's path.
-#[derive(Clone, Copy)]
-pub struct TrianglePath {
-    triangle: Triangle,
-    ix: u8,
-}
-
-impl Cursor for TrianglePath {
-    ghost rest = { path_rest };
-
-    fn next(&mut self) -> Option<PathEl> {
-        let t = self.triangle;
-        let el = match self.ix {
-            0 => PathEl::MoveTo(t.a),
-            1 => PathEl::LineTo(t.b),
-            2 => PathEl::LineTo(t.c),
-            3 => PathEl::ClosePath,
-            _ => return None,
-        };
-        self.ix += 1;
-        Some(el)
-    }
-}
-
 impl Shape for Triangle {
-    type Path = TrianglePath;
+    type Path = ClosedPath<3>;
 
     ghost wind = { triangle_wind };
 
@@ -175,17 +149,9 @@ impl Shape for Triangle {
         self.corner_box()
     }
 
-    fn path_elements(&self, tolerance: f64) -> Result<TrianglePath, ShapeFault> {
-        if !is_tolerance(tolerance) {
-            return Err(ShapeFault::Tolerance);
-        }
-        if !self.is_finite() {
-            return Err(ShapeFault::NotFinite);
-        }
-        Ok(TrianglePath {
-            triangle: *self,
-            ix: 0,
-        })
+    fn path_elements(&self, tolerance: f64) -> Result<ClosedPath<3>, ShapeFault> {
+        check_drawable(tolerance, self.is_finite())?;
+        Ok(ClosedPath::new([self.a, self.b, self.c]))
     }
 }
 

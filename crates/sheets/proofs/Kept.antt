@@ -1,5 +1,5 @@
 -- What a call leaves stands for the rows that the book then has. Assumes nothing.
-use Rattle.std.proofs.Common.{◌≡◌, ℕ, zero, suc, ◌+◌, Bool, true, false, cond, T, List, [], ◌∷◌, ◌++◌, map, Some, None, sym, refl, ap, ◌∙◌, subst, arith}
+use Rattle.std.proofs.Common.{◌≡◌, ℕ, zero, suc, ◌+◌, Bool, true, false, cond, T, List, [], ◌∷◌, ◌++◌, map, Some, None, sym, refl, ap, ◌∙◌, subst}
 use Rattle.std.specs.Bool.{passes}
 use Rattle.plane.specs.declared.affine.Affine.{Affine}
 use Rattle.plane.specs.Affines.{product}
@@ -89,4 +89,4 @@ all_stay {M} n m (e ∷ es) (r ∷ bs) h s l = go (stays m r) refl l (λ k. all_
     go : (b : Bool) → stays m r ≡ b → cond b (leaving (n + 1) bs m) (Some n) ≡ None → (leaving (n + 1) bs m ≡ None → AllStand (map (moved_entry m) es) (map (moved_on m) bs))
         → AllStand (map (moved_entry m) (e ∷ es)) (map (moved_on m) (r ∷ bs))
     go true q k rec = (moved_stands m e r s.0 h (passes (stays m r) q), rec k)
-    go false q k rec = let z : ◌≡◌ {A = ℕ} 0 1 = cc in absurd (let w : 0 ≡ 1 = z in omega arith)
+    go false q k rec = cc

@@ -8,5 +8,5 @@ pub mod Lifts
 pub mod Drawing
 pub mod Sounds
 pub mod Asked
-pub mod Followed
 pub mod Folded
+pub mod Found

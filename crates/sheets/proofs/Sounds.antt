@@ -74,7 +74,7 @@ module _ {M : Type 0} (k : Marks M) where
     where
       go : (b : Bool) → stays m r ≡ b → cond b (leaving (n + 1) bs m) (Some n) ≡ None → (leaving (n + 1) bs m ≡ None → AllKeep (map (moved_on m) bs)) → AllKeep (map (moved_on m) (r ∷ bs))
       go true e q rec = (keeps_on m r h s.0 (passes (stays m r) e), rec q)
-      go false e q rec = let z : ◌≡◌ {A = ℕ} 0 1 = cc in absurd (let w : 0 ≡ 1 = z in omega arith)
+      go false e q rec = cc
 
   keep_shift_all : (m : Affine) (bs : List (Row M)) → T (is_move m) → AllKeep bs → AllKeep (shift_all_rows bs m)
   keep_shift_all m bs h s = go (leaving 0 bs m) refl
@@ -156,8 +156,8 @@ module _ {M : Type 0} (k : Marks M) where
   -- ---- the uppermost
   naught : (w : ℤ) → nonzero w ≡ false → w ≡ pos 0
   naught (pos zero) e = refl
-  naught (pos (suc n)) e = let z : ◌≡◌ {A = ℕ} 0 1 = cc in absurd (let w : 0 ≡ 1 = z in omega arith)
-  naught (negsuc n) e = let z : ◌≡◌ {A = ℕ} 0 1 = cc in absurd (let w : 0 ≡ 1 = z in omega arith)
+  naught (pos (suc n)) e = cc
+  naught (negsuc n) e = cc
 
   not_naught : (w : ℤ) → nonzero w ≡ true → w ≡ pos 0 → ⊥
   not_naught w e d =
@@ -195,7 +195,7 @@ module _ {M : Type 0} (k : Marks M) where
       go (Ok own) q g rec =
           let w = rec (f own) g in
           (f own ++ w.0, w.1 ∙ append_assoc so (f own) w.0, (own, w.0, q, refl, w.2))
-      go (Err x) q g rec = let y = from_err t (i + 1) (Path (record { position = i; fault = x })) bs in let z : ◌≡◌ {A = ℕ} 0 1 = cc in absurd (let w : 0 ≡ 1 = z in omega arith)
+      go (Err x) q g rec = let y = from_err t (i + 1) (Path (record { position = i; fault = x })) bs in cc
 
   well : (d : Drawn) (own : List PathEl) → d ≡ Ok own → WellDrawn d → Formed own
   well d own e h = subst WellDrawn e h
@@ -213,7 +213,7 @@ module _ {M : Type 0} (k : Marks M) where
           let w = pieces_from t 0 [] els bs g in
           let P = subst (Pieces k t bs) (sym w.1) w.2 in
           (P, pieces_formed law t bs els P)
-      go false g = let z : ◌≡◌ {A = ℕ} 0 1 = cc in absurd (let v : 0 ≡ 1 = z in omega arith)
+      go false g = cc
 
   pub sound : LawsOf k → (bs : List (Row M)) → AllKeep bs → Sound k bs
   sound law bs s = record {

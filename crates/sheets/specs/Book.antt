@@ -5,6 +5,7 @@ use Rattle.plane.specs.declared.affine.Affine.{Affine}
 use Rattle.plane.specs.declared.bezpath.PathEl.{PathEl}
 use Rattle.plane.specs.declared.point.Point.{Point}
 use Rattle.plane.specs.declared.rect.Rect.{Rect}
+use Rattle.plane.specs.declared.shape.Shape.{Ghosts}
 use Rattle.plane.specs.Affines.{product, image_box}
 use Rattle.plane.specs.Paths.{Drawn, tolerable}
 use Rattle.plane.specs.Rects.{joined, finite_sides}
@@ -20,8 +21,9 @@ pub record Marks (M : Type 0) : Type 0 where
   pub frame : M → Rect
   pub drawn : M → Float → Drawn
 
-abbrev pub marks : {M : Type 0} → (M → Point → ℤ) → (M → Rect) → (M → Float → Drawn) → Marks M
-marks w f d = record { wind = w; frame = f; drawn = d }
+-- what it means by its answers as a shape
+abbrev pub marks : {M P : Type 0} → Ghosts M P → Marks M
+marks s = record { wind = s.wind; frame = s.frame; drawn = s.drawn }
 
 -- a mark, and its moves, the oldest first
 pub record Row (M : Type 0) : Type 0 where

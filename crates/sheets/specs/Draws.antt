@@ -1,10 +1,16 @@
 -- The steps of a draw: a mark's path with its position, and the places that paths leave. Assumes nothing.
-use Rattle.std.specs.Prelude.{◌≡◌, ℕ, ◌-◌, ◌≤◌, cond, List, length, Some, None, Ok, Err, Option, Result, nat_le}
+use Rattle.std.specs.Prelude.{◌≡◌, ℕ, ◌-◌, ◌≤◌, cond, List, [], map, length, Some, None, Ok, Err, Option, Result, nat_le, Float}
 use Rattle.plane.specs.declared.bezpath.PathEl.{PathEl}
 use Rattle.plane.specs.Paths.{Drawn}
 use Rattle.sheets.specs.declared.fault.MarkFault.{MarkFault}
 use Rattle.sheets.specs.declared.fault.SheetFault.{SheetFault}
-use Rattle.sheets.specs.Book.{Inked}
+use Rattle.sheets.specs.declared.sheet.Entry.{Entry}
+use Rattle.sheets.specs.Book.{Marks, Inked, drawn_from}
+use Rattle.sheets.specs.Tables.{row_of}
+
+-- what entries draw, lowest first, or the lowest refusal
+abbrev pub entries_drawn : {M : Type 0} → Marks M → Float → List (Entry M) → Inked
+entries_drawn k t es = drawn_from k t 0 (Ok []) (map row_of es)
 
 -- a cursor on the path, or the shape's refusal beside the position
 abbrev pub DrawsAt : {C : Type 0} → (C → List PathEl) → Drawn → ℕ → Result C MarkFault → Type 0

@@ -1,5 +1,5 @@
 -- What the book answers to a list of orders, and what rows and what buffer it leaves. Assumes nothing.
-use Rattle.std.specs.Prelude.{◌≡◌, ℕ, ◌+◌, ◌-◌, List, [], ◌∷◌, length, ℤ, Ok, Err, Option, Result}
+use Rattle.std.specs.Prelude.{◌≡◌, ℕ, ◌+◌, ◌-◌, List, [], ◌∷◌, length, Ok, Err, Result}
 use Rattle.plane.specs.declared.bezpath.PathEl.{PathEl}
 use Rattle.sheets.specs.declared.fault.SheetFault.{SheetFault}
 use Rattle.sheets.specs.declared.order.Order.{Order}
@@ -13,36 +13,21 @@ use Rattle.sheets.specs.Tables.{StandsFor, counting, held, rows, where_granted, 
 use Rattle.sheets.specs.Sound.{Sound}
 
 -- ---- answers by their kind
-abbrev pub as_position : Result ℕ SheetFault → Answer
-as_position (Ok i) = said.Position i
-as_position (Err f) = said.Refused f
-
-abbrev pub as_marks : Result ℕ SheetFault → Answer
-as_marks (Ok n) = said.Marks n
-as_marks (Err f) = said.Refused f
-
-abbrev pub as_winding : Result ℤ SheetFault → Answer
-as_winding (Ok w) = said.Winding w
-as_winding (Err f) = said.Refused f
-
-abbrev pub as_top : Result (Option ℕ) SheetFault → Answer
-as_top (Ok i) = said.Top i
-as_top (Err f) = said.Refused f
-
-abbrev pub as_elements : Result ℕ SheetFault → Answer
-as_elements (Ok n) = said.Elements n
-as_elements (Err f) = said.Refused f
+-- what was granted, under the name of its kind; or the refusal
+abbrev pub answered : {X : Type 0} → (X → Answer) → Result X SheetFault → Answer
+answered named (Ok x) = named x
+answered named (Err f) = said.Refused f
 
 -- ---- one order, to a book that is fed the table's length n and the places of the buffer
 abbrev pub reply : {M : Type 0} → Marks M → ℕ → ℕ → List (Row M) → Order M → Answer
-reply k n places bs (Put mark m) = as_position (put_answer k n bs mark)
-reply k n places bs (Shift i m) = as_position (shift_answer bs i i m.map)
-reply k n places bs (ShiftAll m) = as_marks (shift_all_answer bs m.map)
-reply k n places bs (Lift i) = as_marks (lift_answer bs i)
-reply k n places bs (Winding p) = as_winding (at_page_point p (total k p bs))
-reply k n places bs (Top p) = as_top (at_page_point p (highest k p bs))
+reply k n places bs (Put mark m) = answered said.Position (put_answer k n bs mark)
+reply k n places bs (Shift i m) = answered said.Position (shift_answer bs i i m.map)
+reply k n places bs (ShiftAll m) = answered said.Marks (shift_all_answer bs m.map)
+reply k n places bs (Lift i) = answered said.Marks (lift_answer bs i)
+reply k n places bs (Winding p) = answered said.Winding (at_page_point p (total k p bs))
+reply k n places bs (Top p) = answered said.Top (at_page_point p (highest k p bs))
 reply k n places bs BoundingBox = said.Box (union_of k bs)
-reply k n places bs (Draw t) = as_elements (draw_answer places (all_drawn k t bs))
+reply k n places bs (Draw t) = answered said.Elements (draw_answer places (all_drawn k t bs))
 
 -- the rows afterwards
 abbrev pub after : {M : Type 0} → Marks M → ℕ → List (Row M) → Order M → List (Row M)

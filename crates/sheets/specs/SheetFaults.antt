@@ -1,5 +1,7 @@
 -- The refusals of a sheet: for every case its number and its name. Assumes nothing.
-use Rattle.std.specs.Prelude.{ℕ, List, codes}
+use Rattle.std.specs.Prelude.{ℕ, List, None, codes}
+use Rattle.plane.specs.declared.fault.PageFault.{PageFault}
+use Rattle.plane.specs.declared.fault.PageFault.TheVariants as Points
 use Rattle.plane.specs.Faults as shapes
 use Rattle.sheets.specs.declared.fault.MarkFault.{MarkFault}
 use Rattle.sheets.specs.declared.fault.SheetFault.{SheetFault}
@@ -28,3 +30,8 @@ name_of (Path f) = shapes.name_of f.fault
 -- a mark's fault as the sheet's: whole, beside its position
 abbrev pub of_mark : MarkFault → SheetFault
 of_mark f = Path f
+
+-- a point's fault as the sheet's
+abbrev pub of_point : PageFault → SheetFault
+of_point Points.OffGrid = OffGrid
+of_point Points.OffPage = OffPage None

@@ -1,8 +1,8 @@
 //! Why a sheet refuses a call.
 ghost use Rattle.std.specs.Prelude.{◌≡◌};
-ghost use Rattle.sheets.specs.SheetFaults.{number_of, name_of, of_mark};
+ghost use Rattle.sheets.specs.SheetFaults.{number_of, name_of, of_mark, of_point};
 
-use plane::fault::ShapeFault;
+use plane::fault::{PageFault, ShapeFault};
 
 /// What a mark's path refuses, with the mark's position.
 #[derive(Clone, Copy, Debug, PartialEq, Eq)]
@@ -77,5 +77,16 @@ impl From<MarkFault> for SheetFault {
 
     fn from(fault: MarkFault) -> SheetFault {
         SheetFault::Path(fault)
+    }
+}
+
+impl From<PageFault> for SheetFault {
+    ghost from_gives = { λ f r. r ≡ of_point f };
+
+    fn from(fault: PageFault) -> SheetFault {
+        match fault {
+            PageFault::OffGrid => SheetFault::OffGrid,
+            PageFault::OffPage => SheetFault::OffPage { mark: None },
+        }
     }
 }

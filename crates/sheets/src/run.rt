@@ -2,9 +2,8 @@
 ghost use Rattle.std.specs.Prelude.{◌≡◌, min, length, take, drop};
 ghost use Rattle.sheets.specs.Book.{marks};
 ghost use Rattle.sheets.specs.Tables.{counting};
-ghost use Rattle.sheets.specs.Runs.{as_position, as_marks, as_winding, as_top, as_elements, sheet_after, table_after, left, FollowedByBook, RunByBook, BookOf};
+ghost use Rattle.sheets.specs.Runs.{sheet_after, table_after, left, FollowedByBook, RunByBook, BookOf};
 
-use super::fault::SheetFault;
 use super::order::{Answer, Order};
 use super::sheet::{Entry, Sheet};
 use plane::bezpath::PathEl;
@@ -19,19 +18,33 @@ impl Sheet {
         buffer: &mut [PathEl],
         order: Order<M>,
     ) -> Answer
-        ensures record { self.new ≡ sheet_after (marks M.Shape.wind M.Shape.frame M.Shape.drawn) self.old table.old order }
-        ensures table { table.new ≡ table_after (marks M.Shape.wind M.Shape.frame M.Shape.drawn) self.old table.old order }
-        ensures book { FollowedByBook (marks M.Shape.wind M.Shape.frame M.Shape.drawn) self.old table.old buffer.old order result self.new table.new buffer.new }
+        ensures record { self.new ≡ sheet_after (marks M.Shape) self.old table.old order }
+        ensures table { table.new ≡ table_after (marks M.Shape) self.old table.old order }
+        ensures book { FollowedByBook (marks M.Shape) self.old table.old buffer.old order result self.new table.new buffer.new }
     {
         match order {
-            Order::Put(mark, place) => position(self.put(table, mark, place)),
-            Order::Shift(at, by) => position(self.shift(table, at, by)),
-            Order::ShiftAll(by) => count(self.shift_all(table, by)),
-            Order::Lift(at) => count(self.lift(table, at)),
-            Order::Winding(pt) => winding(self.winding(table, pt)),
-            Order::Top(pt) => top(self.top(table, pt)),
+            Order::Put(mark, place) => self
+                .put(table, mark, place)
+                .map_or_else(Answer::Refused, Answer::Position),
+            Order::Shift(at, by) => self
+                .shift(table, at, by)
+                .map_or_else(Answer::Refused, Answer::Position),
+            Order::ShiftAll(by) => self
+                .shift_all(table, by)
+                .map_or_else(Answer::Refused, Answer::Marks),
+            Order::Lift(at) => self
+                .lift(table, at)
+                .map_or_else(Answer::Refused, Answer::Marks),
+            Order::Winding(pt) => self
+                .winding(table, pt)
+                .map_or_else(Answer::Refused, Answer::Winding),
+            Order::Top(pt) => self
+                .top(table, pt)
+                .map_or_else(Answer::Refused, Answer::Top),
             Order::BoundingBox => Answer::Box(self.bounding_box(table)),
-            Order::Draw(tolerance) => elements(self.draw(table, tolerance, buffer)),
+            Order::Draw(tolerance) => self
+                .draw(table, tolerance, buffer)
+                .map_or_else(Answer::Refused, Answer::Elements),
         }
     }
 
@@ -46,16 +59,13 @@ impl Sheet {
     ) -> usize
         ensures count { result ≡ min (length orders.now) (length answers.old) }
         ensures rest { drop result answers.new ≡ drop result answers.old }
-        ensures left { (self.new, table.new) ≡ left (marks M.Shape.wind M.Shape.frame M.Shape.drawn) (self.old, table.old) (take result orders.now) }
-        ensures book { RunByBook (marks M.Shape.wind M.Shape.frame M.Shape.drawn) self.old table.old buffer.old (take result orders.now) (take result answers.new) self.new table.new buffer.new }
+        ensures left { (self.new, table.new) ≡ left (marks M.Shape) (self.old, table.old) (take result orders.now) }
+        ensures book { RunByBook (marks M.Shape) self.old table.old buffer.old (take result orders.now) (take result answers.new) self.new table.new buffer.new }
     {
-        let n = if orders.len() < answers.len() {
-            orders.len()
-        } else {
-            answers.len()
-        };
-        for i in 0..n {
-            answers[i] = self.follow(table, buffer, orders[i]);
+        let n = orders.len().min(answers.len());
+        // By index: of a zip over `iter_mut` no more is known than the length.
+        for (i, order) in orders[..n].iter().enumerate() {
+            answers[i] = self.follow(table, buffer, *order);
         }
         n
     }
@@ -74,60 +84,10 @@ pub fn carry_out<M: Shape>(
 ) -> (Sheet, usize)
     ensures count { result.1 ≡ min (length orders.now) (length answers.old) }
     ensures rest { drop result.1 answers.new ≡ drop result.1 answers.old }
-    ensures left { (result.0, table.new) ≡ left (marks M.Shape.wind M.Shape.frame M.Shape.drawn) (counting 0, table.old) (take result.1 orders.now) }
-    ensures book { BookOf (marks M.Shape.wind M.Shape.frame M.Shape.drawn) table.old buffer.old (take result.1 orders.now) (take result.1 answers.new) result.0 table.new buffer.new }
+    ensures left { (result.0, table.new) ≡ left (marks M.Shape) (counting 0, table.old) (take result.1 orders.now) }
+    ensures book { BookOf (marks M.Shape) table.old buffer.old (take result.1 orders.now) (take result.1 answers.new) result.0 table.new buffer.new }
 {
     let mut sheet = Sheet::open();
     let n = sheet.run(table, buffer, orders, answers);
     (sheet, n)
-}
-
-// The answer of a call that gives a position.
-fn position(answer: Result<usize, SheetFault>) -> Answer
-    ensures { result ≡ as_position answer }
-{
-    match answer {
-        Ok(at) => Answer::Position(at),
-        Err(f) => Answer::Refused(f),
-    }
-}
-
-// The answer of a call that gives how many marks there are.
-fn count(answer: Result<usize, SheetFault>) -> Answer
-    ensures { result ≡ as_marks answer }
-{
-    match answer {
-        Ok(n) => Answer::Marks(n),
-        Err(f) => Answer::Refused(f),
-    }
-}
-
-// The answer of a call that adds up windings.
-fn winding(answer: Result<i32, SheetFault>) -> Answer
-    ensures { result ≡ as_winding answer }
-{
-    match answer {
-        Ok(w) => Answer::Winding(w),
-        Err(f) => Answer::Refused(f),
-    }
-}
-
-// The answer of a call that names the uppermost mark.
-fn top(answer: Result<Option<usize>, SheetFault>) -> Answer
-    ensures { result ≡ as_top answer }
-{
-    match answer {
-        Ok(at) => Answer::Top(at),
-        Err(f) => Answer::Refused(f),
-    }
-}
-
-// The answer of a call that draws.
-fn elements(answer: Result<usize, SheetFault>) -> Answer
-    ensures { result ≡ as_elements answer }
-{
-    match answer {
-        Ok(n) => Answer::Elements(n),
-        Err(f) => Answer::Refused(f),
-    }
 }

@@ -1,1 +1,3 @@
 mod Splits
+mod Arrows
+mod Readings

@@ -1,3 +1,4 @@
+pub mod Functions
 pub mod Texts
 pub mod Answers
 pub mod Lists

@@ -1,23 +1,25 @@
 -- How a list of cases is written. Assumes nothing.
-use Rattle.std.specs.Prelude.{ℕ, List, ◌++◌, codes}
+use Rattle.std.specs.Prelude.{◌≡◌, ℕ, T, List, ◌++◌, codes}
+use Rattle.std.specs.Float.{binary64}
+use Rattle.std.specs.Float.Ieee.{fits}
 use Rattle.cases.specs.Texts.{written}
 use Rattle.vectors.specs.declared.case.Function.{Function}
-use Rattle.vectors.specs.declared.case.Function.TheVariants.{Sqrt, SinCos, Tan, Atan2, SixthRoot, Powi2, Powi7}
 use Rattle.vectors.specs.declared.case.Numbers.{Numbers}
 use Rattle.vectors.specs.declared.case.Numbers.TheVariants.{One, Two}
+use Rattle.vectors.specs.Functions.{name_of}
 
 abbrev pub text_of : Numbers → List ℕ
 text_of (One x) = written x
 text_of (Two x y) = written x ++ (codes " " ++ written y)
 
-abbrev pub name_of : Function → List ℕ
-name_of Sqrt = codes "sqrt"
-name_of SinCos = codes "sin_cos"
-name_of Tan = codes "tan"
-name_of Atan2 = codes "atan2"
-name_of SixthRoot = codes "sixth_root"
-name_of Powi2 = codes "powi2"
-name_of Powi7 = codes "powi7"
+-- each is a value of the format
+abbrev pub AllFit : Numbers → Type 0
+AllFit (One x) = T (fits binary64 x)
+AllFit (Two x y) = T (fits binary64 x) × T (fits binary64 y)
+
+-- the text writes the numbers, which are values of the format
+abbrev pub WritesAll : List ℕ → Numbers → Type 0
+WritesAll text n = AllFit n × (text ≡ text_of n)
 
 -- NAME ARGUMENT.. -> ANSWER..
 abbrev pub case_text : Function → Numbers → Numbers → List ℕ

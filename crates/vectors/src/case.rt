@@ -1,69 +1,45 @@
 //! Reads a case of the list, and compares what a function answers with what it should.
-ghost use Rattle.std.specs.Prelude.{◌≡◌, IfSome, Some};
-ghost use Rattle.vectors.specs.Texts.{text_of, name_of};
+ghost use Rattle.std.specs.Prelude.{◌≡◌, Some};
+ghost use Rattle.std.specs.Result.{result_ok};
+ghost use Rattle.cases.specs.Texts.{Finds};
+ghost use Rattle.vectors.specs.Functions.{all_functions, function_names, name_of, place_of, places_within};
+ghost use Rattle.vectors.specs.Texts.{text_of, WritesAll};
 ghost use Rattle.vectors.specs.Answers.{Answers, alike};
 ghost use Rattle.vectors.specs.Lists.{CaseOf, LineOf};
 
-use cases::number;
-use cases::number::{same_bits, show};
+use cases::lines::text_in;
+use cases::named::Named;
+use cases::number::{NoNumber, Number, same_bits};
+use cases::report::Counted;
 use elementary::powers::{powi2, powi7};
 use elementary::sixth_root::sixth_root;
 use elementary::sqrt::sqrt;
 use elementary::trig::{atan2, sin_cos, tan};
 use std::fmt;
-use std::str::from_utf8;
+use std::str::{FromStr, Utf8Error};
 
 /// A function that the list has cases of.
 #[derive(Clone, Copy)]
 pub enum Function {
+    /// The square root.
     Sqrt,
+    /// The sine and the cosine.
     SinCos,
+    /// The tangent.
     Tan,
+    /// The angle of a vector.
     Atan2,
+    /// The sixth root.
     SixthRoot,
+    /// The second power.
     Powi2,
+    /// The seventh power.
     Powi7,
 }
 
 impl Function {
     /// How many functions there are.
     pub const COUNT: usize = 7;
-
-    /// Each function, in the order of the report.
-    pub const ALL: [Function; Function::COUNT] = [
-        Function::Sqrt,
-        Function::SinCos,
-        Function::Tan,
-        Function::Atan2,
-        Function::SixthRoot,
-        Function::Powi2,
-        Function::Powi7,
-    ];
-
-    fn name(self) -> &'static str
-        ensures { result.now ≡ name_of self }
-    {
-        match self {
-            Function::Sqrt => "sqrt",
-            Function::SinCos => "sin_cos",
-            Function::Tan => "tan",
-            Function::Atan2 => "atan2",
-            Function::SixthRoot => "sixth_root",
-            Function::Powi2 => "powi2",
-            Function::Powi7 => "powi7",
-        }
-    }
-
-    fn named(name: &str) -> Option<Function>
-        ensures { IfSome result (λ f. name.now ≡ name_of f) }
-    {
-        for function in Function::ALL {
-            if function.name() == name {
-                return Some(function);
-            }
-        }
-        None
-    }
 
     // What the function answers: none if the arguments are too few or too many.
     fn answer(self, arguments: Numbers) -> Option<Numbers>
@@ -85,34 +61,58 @@ impl Function {
     }
 }
 
-impl fmt::Display for Function {
-    ghost output = { λ f. Some (name_of f) };
+impl Named for Function {
+    ghost name_of = { name_of };
 
-    fn fmt<W: fmt::Write>(&self, f: &mut fmt::Formatter<W>) -> fmt::Result {
-        f.write_str(self.name())
+    ghost all = { all_functions };
+
+    ghost each = { function_names };
+
+    fn all() -> &'static [Function] {
+        &[
+            Function::Sqrt,
+            Function::SinCos,
+            Function::Tan,
+            Function::Atan2,
+            Function::SixthRoot,
+            Function::Powi2,
+            Function::Powi7,
+        ]
+    }
+
+    fn name(self) -> &'static str {
+        match self {
+            Function::Sqrt => "sqrt",
+            Function::SinCos => "sin_cos",
+            Function::Tan => "tan",
+            Function::Atan2 => "atan2",
+            Function::SixthRoot => "sixth_root",
+            Function::Powi2 => "powi2",
+            Function::Powi7 => "powi7",
+        }
+    }
+}
+
+impl Counted<{ Function::COUNT }> for Function {
+    ghost place_of = { place_of };
+
+    ghost within = { places_within };
+
+    fn place(self) -> usize {
+        self as usize
     }
 }
 
 /// The arguments of a function, or its answer.
 #[derive(Clone, Copy)]
 pub enum Numbers {
+    /// A single number.
     One(f64),
+    /// A pair.
     Two(f64, f64),
 }
 
 impl Numbers {
-    fn read(text: &str) -> Option<Numbers>
-        ensures { IfSome result (λ n. text.now ≡ text_of n) }
-    {
-        match text.split_once(' ') {
-            Some((first, second)) => Some(Numbers::Two(
-                number::read(first)?,
-                number::read(second)?,
-            )),
-            None => Some(Numbers::One(number::read(text)?)),
-        }
-    }
-
     fn agrees_with(self, other: Numbers) -> bool
         ensures { result ≡ alike self other }
     {
@@ -124,15 +124,33 @@ impl Numbers {
     }
 }
 
+impl FromStr for Numbers {
+    type Err = NoNumber;
+
+    ghost from_str_gives = { λ text r. Finds (WritesAll text) (result_ok r) };
+
+    fn from_str(text: &str) -> Result<Numbers, NoNumber> {
+        match text.split_once(' ') {
+            Some((first, second)) => {
+                let Number(x) = first.parse()?;
+                let Number(y) = second.parse()?;
+                Ok(Numbers::Two(x, y))
+            }
+            None => {
+                let Number(x) = text.parse()?;
+                Ok(Numbers::One(x))
+            }
+        }
+    }
+}
+
 impl fmt::Display for Numbers {
+    ghost output = { λ n. Some (text_of n) };
+
     fn fmt<W: fmt::Write>(&self, f: &mut fmt::Formatter<W>) -> fmt::Result {
         match *self {
-            Numbers::One(a) => show(a, f),
-            Numbers::Two(a, b) => {
-                show(a, f)?;
-                f.write_str(" ")?;
-                show(b, f)
-            }
+            Numbers::One(a) => write!(f, "{}", Number(a)),
+            Numbers::Two(a, b) => write!(f, "{} {}", Number(a), Number(b)),
         }
     }
 }
@@ -148,21 +166,51 @@ pub struct Case {
     expected: Numbers,
 }
 
-impl Case {
+/// A line that is no case.
+#[derive(Clone, Copy, Debug, PartialEq, Eq)]
+pub struct NoCase;
+
+impl From<NoNumber> for NoCase {
+    fn from(_: NoNumber) -> NoCase {
+        NoCase
+    }
+}
+
+impl From<Utf8Error> for NoCase {
+    fn from(_: Utf8Error) -> NoCase {
+        NoCase
+    }
+}
+
+impl FromStr for Case {
+    type Err = NoCase;
+
+    ghost from_str_gives = { λ text r. Finds (CaseOf text) (result_ok r) };
+
     // Reads NAME ARGUMENT.. -> ANSWER.. and asks the function.
-    fn read(text: &str) -> Option<Case>
-        ensures { IfSome result (CaseOf text.now) }
-    {
-        let (question, answer) = text.split_once(" -> ")?;
-        let (name, arguments) = question.split_once(' ')?;
-        let function = Function::named(name)?;
-        let got = function.answer(Numbers::read(arguments)?)?;
-        let expected = Numbers::read(answer)?;
-        Some(Case {
+    fn from_str(text: &str) -> Result<Case, NoCase> {
+        let (question, answer) = text.split_once(" -> ").ok_or(NoCase)?;
+        let (name, arguments) = question.split_once(' ').ok_or(NoCase)?;
+        let function = Function::named(name).ok_or(NoCase)?;
+        let got = function.answer(arguments.parse()?).ok_or(NoCase)?;
+        let expected = answer.parse()?;
+        Ok(Case {
             function,
             got,
             expected,
         })
+    }
+}
+
+impl Case {
+    /// The case on a line, or none where the line is skipped.
+    pub fn on_line(line: &[u8]) -> Result<Option<Case>, NoCase>
+        ensures { LineOf line.now result }
+    {
+        match text_in(line)? {
+            Some(text) => Ok(Some(text.parse()?)),
+            None => Ok(None),
+        }
     }
 
     /// Whether the function answers as it should.
@@ -170,40 +218,5 @@ impl Case {
         ensures { result ≡ alike self.got self.expected }
     {
         self.got.agrees_with(self.expected)
-    }
-}
-
-/// A line of the list.
-#[derive(Clone, Copy)]
-pub enum Line {
-    /// A comment, or nothing.
-    Skipped,
-    /// A case.
-    Asked(Case),
-    /// Neither.
-    Unreadable,
-}
-
-impl Line {
-    /// Reads a line, without its end.
-    pub fn read(bytes: &[u8]) -> Line
-        ensures { LineOf bytes.now result }
-    {
-        match from_utf8(bytes) {
-            Ok(text) => Line::in_text(text),
-            Err(_) => Line::Unreadable,
-        }
-    }
-
-    fn in_text(text: &str) -> Line
-        ensures { LineOf text.now result }
-    {
-        if text.is_empty() || text.starts_with('#') {
-            return Line::Skipped;
-        }
-        match Case::read(text) {
-            Some(case) => Line::Asked(case),
-            None => Line::Unreadable,
-        }
     }
 }

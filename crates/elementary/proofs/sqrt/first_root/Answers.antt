@@ -1,3 +1,4 @@
+-- Each entry of the table passes the test.
 use Rattle.std.proofs.Common.{◌-◌, ◌<◌, arith, rules}
 use Rattle.elementary.proofs.RootGuesses.{guess_at}
 use Rattle.elementary.proofs.sqrt.first_root.Goals as goal

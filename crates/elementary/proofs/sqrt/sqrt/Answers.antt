@@ -1,56 +1,47 @@
-use Rattle.std.proofs.Common.{refl, ◌∙◌}
+-- Each case of the argument has the root that its clauses say.
+use Rattle.std.proofs.Common.{refl, ◌∙◌, T}
 use Rattle.std.specs.Bool.{passes}
+use Rattle.std.specs.Float.{float_zero, float_is_finite}
+use Rattle.std.specs.Float.Ieee.{lt}
+use Rattle.std.specs.Float.Order.{lt_trans, lt_irrefl, lt_of_le_of_lt, le_of_lt, le_of_eq, eq_flip, eq-not_lt}
+use Rattle.elementary.proofs.Numbers.{no_number}
 use Rattle.elementary.proofs.RootCases as on
 use Rattle.elementary.proofs.sqrt.sqrt.Goals as goal
+use Rattle.elementary.proofs.sqrt.sqrt.Goals.{else-x-via-then-x+else-x-2, else-x-via-else-x}
 
 pub positive_root-requires : goal.positive_root-requires
 positive_root-requires c = (on.above_zero c.args.x c.if-x.true, on.below_infinity c.args.x c.if-x.true c.if-x-2.true)
 
-pub returns-then-x-2 : goal.returns-then-x-2
-returns-then-x-2 c =
-    let x = c.args.x in
-    let p = on.above_zero x c.if-x.true in
-    record {
-      nearest = λ h k. c.positive_root.ensures.nearest;
-      zeros = λ h. absurd (on.not_zero x p h);
-      infinity = λ h. absurd (on.infinity_not_finite x (on.below_infinity x c.if-x.true c.if-x-2.true) h);
-      below = λ h. absurd (on.not_below x p h);
-      nothing = λ h. absurd (on.nan_not_above x p h);
-      defined = c.positive_root.ensures.defined;
-    }
+pub returns-then-x-2-clause-zeros : goal.returns-then-x-2-clause-zeros
+returns-then-x-2-clause-zeros c = λ h. absurd (eq-not_lt float_zero c.args.x (eq_flip c.args.x float_zero h) (on.above_zero c.args.x c.if-x.true))
 
-pub returns-else-x-2 : goal.returns-else-x-2
-returns-else-x-2 c =
-    let x = c.args.x in
-    record {
-      nearest = λ h k. absurd (on.finite_below x k c.if-x-2.false);
-      zeros = λ h. refl;
-      infinity = λ h. h;
-      below = λ h. absurd (on.not_below x (on.above_zero x c.if-x.true) h);
-      nothing = λ h. h;
-      defined = on.infinity_root x (on.above_zero x c.if-x.true) c.if-x-2.false;
-    }
+pub returns-then-x-2-clause-below : goal.returns-then-x-2-clause-below
+returns-then-x-2-clause-below c = λ h. absurd (lt_irrefl float_zero (lt_trans float_zero c.args.x float_zero (on.above_zero c.args.x c.if-x.true) h))
 
 pub returns-then-x-3 : goal.returns-then-x-3
 returns-then-x-3 c =
     let x = c.args.x in
+    let from = on.from_zero x c.if-x-3.true in
+    let outside : T (lt float_zero x) → T (float_is_finite x) → ⊥ =
+    λ h k. elim c.else-x.branch [ else-x-via-then-x+else-x-2 w ↦ on.finite_below x k w.if-x-2.false | else-x-via-else-x w ↦ on.not_above x w.if-x.false h ] in
     record {
-      nearest = λ h k. absurd (on.not_zero x h (on.is_zero x c.if-x-3.true));
+      nearest = λ h k. absurd (outside h k);
       zeros = λ h. refl;
       infinity = λ h. h;
-      below = λ h. absurd (on.zero_not_below x (on.is_zero x c.if-x-3.true) h);
+      below = λ h. absurd (lt_irrefl float_zero (lt_of_le_of_lt float_zero x float_zero from h));
       nothing = λ h. h;
-      defined = on.zero_root x (passes _ c.well_formed.0.1) (on.is_zero x c.if-x-3.true);
+      defined = on.own_root x (passes _ c.well_formed.0.1) from outside;
     }
 
 pub returns-else-x-3 : goal.returns-else-x-3
 returns-else-x-3 c =
     let x = c.args.x in
+    let under = on.not_from_zero x c.if-x-3.false in
     record {
-      nearest = λ h k. absurd (on.not_above x c.if-x.false h);
-      zeros = λ h. absurd (on.is_not_zero x c.if-x-3.false h);
-      infinity = λ h. absurd (on.infinity_above x h c.if-x.false);
-      below = λ h. on.nan_is;
-      nothing = λ h. on.nan_is;
-      defined = on.nan_is ∙ on.no_root x (on.not_above x c.if-x.false) (on.is_not_zero x c.if-x-3.false);
+      nearest = λ h k. absurd (under (le_of_lt float_zero x h));
+      zeros = λ h. absurd (under (le_of_eq float_zero x (eq_flip x float_zero h)));
+      infinity = λ h. absurd (under (on.infinity_from_zero x h));
+      below = λ h. no_number;
+      nothing = λ h. no_number;
+      defined = no_number ∙ on.no_root x (λ h. under (le_of_lt float_zero x h)) (λ h. under (le_of_eq float_zero x (eq_flip x float_zero h)));
     }

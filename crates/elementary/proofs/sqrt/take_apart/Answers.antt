@@ -1,19 +1,16 @@
-use Rattle.std.proofs.Common.{◌^◌, ◌<◌, refl, arith}
-use Rattle.elementary.proofs.BitFields as field
+-- The digits and the scale of the number with these bits.
+use Rattle.std.proofs.Common.{rules}
+use Rattle.elementary.proofs.BitFields.{shift_room, shift_low, shift_high, shift_value, normal_scaled}
 use Rattle.elementary.proofs.sqrt.take_apart.Goals as goal
 
-small : (c : goal.Then-field-eq0) → c.args.bits < 2 ^ 52
-small c = omega (arith, c.if-field-eq0.true)
-
 pub overflow_sub-shift : goal.overflow_sub-shift
-overflow_sub-shift c = field.shift_room c.args.bits _ c.requires.0 (small c) refl
+overflow_sub-shift c = search (rules, shift_room)
 
-pub returns-then-field-eq0 : goal.returns-then-field-eq0
-returns-then-field-eq0 c = record {
-  digits = (field.shift_low c.args.bits _ c.requires.0 (small c) refl, field.shift_high c.args.bits _ c.requires.0 (small c) refl);
-  range = omega arith;
-  value = field.shift_value c.args.bits _ c.requires.0 (small c) refl;
-}
+pub returns-then-field-eq0-clause-digits : goal.returns-then-field-eq0-clause-digits
+returns-then-field-eq0-clause-digits c = search (rules, shift_low, shift_high)
 
-pub returns-else-field-eq0 : goal.returns-else-field-eq0
-returns-else-field-eq0 c = record { digits = (omega arith, omega arith); range = omega arith; value = field.normal_scaled c.args.bits c.requires.1 c.if-field-eq0.false }
+pub returns-then-field-eq0-clause-value : goal.returns-then-field-eq0-clause-value
+returns-then-field-eq0-clause-value c = search (rules, shift_value)
+
+pub returns-else-field-eq0-clause-value : goal.returns-else-field-eq0-clause-value
+returns-else-field-eq0-clause-value c = search (rules, normal_scaled)

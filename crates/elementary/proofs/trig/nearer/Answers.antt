@@ -1,3 +1,4 @@
+-- The step is that of the definition.
 use Rattle.std.proofs.Common.{rules}
 use Rattle.elementary.specs.Angles.{nearer}
 use Rattle.elementary.proofs.trig.nearer.Goals as goal

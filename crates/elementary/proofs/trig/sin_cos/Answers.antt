@@ -1,3 +1,4 @@
+-- The turned pair is that of the definition, and an angle that is too large has none.
 use Rattle.std.proofs.Common.{rules}
 use Rattle.elementary.specs.Angles.{sin_cos}
 use Rattle.elementary.proofs.trig.sin_cos.Goals as goal

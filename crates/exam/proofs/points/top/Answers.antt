@@ -1,18 +1,12 @@
--- What the relation says is at hand at each return, and one answer alone keeps to it.
-use Rattle.std.proofs.Common.{None, arith}
+-- The search from the back finds the uppermost, and one answer alone keeps to that.
+use Rattle.std.proofs.Common.{subst, rules}
 use Rattle.exam.specs.Uppermost.{Uppermost}
-use Rattle.exam.proofs.Layers.{only, found, passed}
+use Rattle.exam.proofs.Layers.{only, uppermost_found}
 use Rattle.exam.proofs.points.top.Goals as goal
-
-pub returns-then-contains : goal.returns-then-contains
-returns-then-contains c =
-    let h = found c.args.marks.now c.args.pt _ _ _ c.if-contains.ensures (omega arith) (omega arith) c.loop-position.invariant in
-    record { value = only _ _ _ h; means = h }
-
-pub loop-position-preserved : goal.loop-position-preserved
-loop-position-preserved c = passed c.args.marks.now c.args.pt _ _ _ c.if-contains.ensures (omega arith) (omega arith) c.loop-position.invariant
 
 pub returns : goal.returns
 returns c =
-    let h : Uppermost c.args.marks.now c.args.pt None = λ k d low high. c.loop-position.invariant k d (omega arith) high in
-    record { value = only _ _ _ h; means = h }
+    let run = c.rposition.ensures.runs in
+    let h = uppermost_found _ _ c.args.pt (λ x b f' q. search rules) c.iter.result.rest.now run.0 (rw run.1 at (c.iter.ensures.runs_back run.0 run.0.seen)) c.rposition.result run.2 c.rposition.ensures.bound in
+    let means : Uppermost c.args.marks.now c.args.pt c.rposition.result = subst (λ ms. Uppermost ms c.args.pt c.rposition.result) c.iter.ensures.rest h in
+    record { value = only _ _ _ means; means = means }

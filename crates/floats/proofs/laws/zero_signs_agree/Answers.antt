@@ -1,3 +1,4 @@
+-- No operation sees the sign of a zero.
 use Rattle.floats.proofs.Alike.{zeros_agree}
 use Rattle.floats.proofs.laws.zero_signs_agree.Goals as goal
 

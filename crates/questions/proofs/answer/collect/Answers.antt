@@ -1,10 +1,7 @@
--- Each turn takes one element more. Assumes nothing.
-use Rattle.std.proofs.Common.{vec_items}
-use Rattle.questions.proofs.Collected.{gave, one_more}
+-- What is collected is what the cursor means.
+use Rattle.std.proofs.lemmas.Iterator.{items_from_collect}
+use Rattle.plane.specs.Cursors.{whole_path}
 use Rattle.questions.proofs.answer.collect.Goals as goal
 
-pub loop-el-preserved : goal.loop-el-preserved
-loop-el-preserved g c =
-    let first = gave (g.C.Cursor.rest c.loop-el.cursor) c.in-Some.el (g.C.Cursor.rest c.next.new.self) c.in-Some.ensures in
-    one_more (vec_items c.loop-el.path) (vec_items c.push.new.self) (g.C.Cursor.rest c.loop-el.cursor) (g.C.Cursor.rest c.next.new.self)
-    (g.C.Cursor.rest c.args.cursor) c.in-Some.el c.in_ok-push.ensures.items first c.loop-el.invariant
+pub returns : goal.returns
+returns g c = items_from_collect _ c.collect.ensures.ran (whole_path g.C.Iterator.next_gives g.C.Cursor.rest g.met.C.Cursor.steps c.args.cursor)

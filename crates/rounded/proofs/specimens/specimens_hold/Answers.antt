@@ -1,3 +1,4 @@
+-- The specimens hold, as they were computed.
 use Rattle.rounded.proofs.Chosen.{chosen}
 use Rattle.rounded.proofs.specimens.specimens_hold.Goals as goal
 

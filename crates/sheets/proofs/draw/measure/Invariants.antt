@@ -6,4 +6,4 @@ use Rattle.sheets.proofs.Drawing.{front}
 use Rattle.sheets.proofs.draw.measure.Given as goal
 
 abbrev pub invariant-loop-position : goal.invariant-loop-position
-invariant-loop-position g l = Ok l.left ≡ measured l.places (front (marks g.M.Shape.wind g.M.Shape.frame g.M.Shape.drawn) l.tolerance l.position l.table)
+invariant-loop-position g l = Ok l.left ≡ measured l.places (front (marks g.M.Shape) l.tolerance l.position l.entries)

@@ -6,9 +6,9 @@ use Rattle.sheets.proofs.draw.pour.Given as goal
 abbrev pub invariant-loop-el : goal.invariant-loop-el
 invariant-loop-el g l =
     let rest = g.C.Cursor.rest in
-    (l.k + length (rest l.path) ≡ l.at + length (rest l.initial.path))
-    × (take l.k l.buffer ++ map (image_el l.place) (rest l.path) ≡ take l.at l.initial.buffer ++ map (image_el l.place) (rest l.initial.path))
-    × (drop l.k l.buffer ≡ drop l.k l.initial.buffer)
-
-abbrev pub decreases-loop-el : goal.decreases-loop-el
-decreases-loop-el g l = length (g.C.Cursor.rest l.path)
+    record {
+      open_end : (goal.iterator-loop-el g).can_next l.el-iterator × (goal.iterator-loop-el g).is_finite l.el-iterator;
+      count : l.k + length (rest l.el-iterator) ≡ l.at + length (rest l.fn.path);
+      front : take l.k l.buffer ++ map (image_el l.place) (rest l.el-iterator) ≡ take l.at l.initial.buffer ++ map (image_el l.place) (rest l.fn.path);
+      back : drop l.k l.buffer ≡ drop l.k l.initial.buffer;
+    }

@@ -6,6 +6,6 @@ use Rattle.sheets.proofs.draw.pour_all.Given as goal
 
 abbrev pub invariant-loop-position : goal.invariant-loop-position
 invariant-loop-position g l =
-    (front (marks g.M.Shape.wind g.M.Shape.frame g.M.Shape.drawn) l.tolerance l.position l.table ≡ Ok (take l.at l.buffer))
+    (front (marks g.M.Shape) l.tolerance l.position l.entries ≡ Ok (take l.at l.buffer))
     × (l.at ≤ length l.buffer)
     × (drop l.at l.buffer ≡ drop l.at l.initial.buffer)

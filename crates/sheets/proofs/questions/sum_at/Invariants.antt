@@ -4,5 +4,5 @@ use Rattle.sheets.specs.Book.{marks, total}
 use Rattle.sheets.specs.Tables.{row_of}
 use Rattle.sheets.proofs.questions.sum_at.Given as goal
 
-abbrev pub invariant-loop-position : goal.invariant-loop-position
-invariant-loop-position g l = l.sum ≡ total (marks g.M.Shape.wind g.M.Shape.frame g.M.Shape.drawn) l.pt (map row_of (take l.position l.table))
+abbrev pub invariant-loop-entry : goal.invariant-loop-entry
+invariant-loop-entry g l = l.sum ≡ total (marks g.M.Shape) l.pt (map row_of (take l.entry-index l.entries))

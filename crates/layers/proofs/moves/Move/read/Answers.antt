@@ -1,9 +1,7 @@
-use Rattle.std.proofs.Common.{sym, ◌∙◌}
-use Rattle.layers.proofs.Refusals.{read_granted, read_refused}
+-- What is granted is read as it stands, and what is refused as unmoved.
+use Rattle.std.proofs.Common.{rules}
+use Rattle.layers.proofs.Refusals.{read_by}
 use Rattle.layers.proofs.moves.Move.read.Goals as goal
 
-pub returns-in-Ok : goal.returns-in-Ok
-returns-in-Ok c = c.in-Ok.ensures.granted.0 ∙ sym (read_granted c.args.map c.in-Ok.ensures.granted.1)
-
-pub returns-in-Err : goal.returns-in-Err
-returns-in-Err c = c.unmoved.ensures ∙ sym (read_refused c.args.map c.in-Err.field-0 c.in-Err.ensures.denied)
+pub returns : goal.returns
+returns c = read_by c.args.map c.new.result c.unwrap_or.result c.new.ensures.granted c.new.ensures.denied (search rules)

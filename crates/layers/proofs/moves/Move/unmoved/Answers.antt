@@ -1,3 +1,4 @@
+-- No turn and no offset is a move.
 use Rattle.std.proofs.Common.{T, sym, subst}
 use Rattle.plane.specs.declared.affine.Affine.{Affine}
 use Rattle.layers.specs.Moves.{is_move}

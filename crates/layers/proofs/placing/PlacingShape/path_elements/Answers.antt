@@ -1,3 +1,4 @@
+-- The path below, each point moved.
 use Rattle.std.proofs.Common.{map, Ok, sym, ap, ◌∙◌}
 use Rattle.plane.specs.declared.affine.Affine.{Affine}
 use Rattle.plane.specs.Affines.{image_el}

@@ -1,13 +1,10 @@
+-- The machine's product of the sign and the winding below is the winding of the placing.
 use Rattle.std.proofs.Common.{◌∙◌}
 use lib.Ieee.{lt}
 use Rattle.plane.specs.Affines.{nought, det}
 use Rattle.layers.specs.Moves.{read_as}
-use Rattle.layers.proofs.Signs.{sign_fits, sign_times, placed_at}
+use Rattle.layers.proofs.Signs.{sign_times, placed_at}
 use Rattle.layers.proofs.placing.PlacingShape.winding.Goals as goal
-
-pub overflow_mul-result : goal.overflow_mul-result
-overflow_mul-result g c =
-    sign_fits (lt (det c.place-place.result.map) nought) c.sign.result c.winding.result c.sign.ensures.value c.winding.ensures (g.met.S.Shape.small c.args.self.now.below c.back-q.result)
 
 pub returns-then-in_field-2 : goal.returns-then-in_field-2
 returns-then-in_field-2 g c =

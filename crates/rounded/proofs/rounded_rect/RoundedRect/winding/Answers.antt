@@ -1,3 +1,4 @@
+-- The winding is as the definition computes it, and so it keeps the laws, and on the grid the rule.
 use Rattle.std.proofs.Common.{◌≡◌, rules}
 use Rattle.rounded.specs.Roundings.{wind}
 use Rattle.rounded.specs.Corners.{rounded_lawful, rounded_rule}

@@ -6,7 +6,7 @@ use Rattle.sheets.proofs.sheet.Sheet.run.Given as goal
 
 abbrev pub invariant-loop-i : goal.invariant-loop-i
 invariant-loop-i g l =
-    let k = marks g.M.Shape.wind g.M.Shape.frame g.M.Shape.drawn in
+    let k = marks g.M.Shape in
     (drop l.i l.answers ≡ drop l.i l.initial.answers)
     × ((l.self, l.table) ≡ left k (l.initial.self, l.initial.table) (take l.i l.orders))
     × RunByBook k l.initial.self l.initial.table l.initial.buffer (take l.i l.orders) (take l.i l.answers) l.self l.table l.buffer

@@ -1,59 +1,60 @@
--- The answer by the entry at the position; what is left follows from it.
-use Rattle.std.proofs.Common.{◌<◌, ◌≤◌, min, Bool, cond, length, set, None, Ok, Err, refl, ap, ◌∙◌, arith, rules}
+-- The answer by the entry at the position; what is left stands for the book's rows.
+use Rattle.std.proofs.Common.{◌≡◌, ◌<◌, ◌≤◌, Bool, cond, length, ℕ, get_or, set, None, Ok, Err, Result, sym, refl, ap, ◌∙◌, arith, rules, get_or-take}
 use Rattle.layers.specs.Moves.{page_offset}
-use Rattle.sheets.specs.declared.fault.SheetFault.TheVariants.{OffPage}
+use Rattle.sheets.specs.declared.fault.SheetFault.{SheetFault}
+use Rattle.sheets.specs.declared.fault.SheetFault.TheVariants.{OffPage, NoMark}
 use Rattle.sheets.specs.declared.sheet.Entry.{Entry}
-use Rattle.sheets.specs.Tables.{held}
+use Rattle.sheets.specs.Tables.{held, used, where_granted, alter, moved_entry}
+use Rattle.sheets.proofs.Counts.{used_count}
 use Rattle.sheets.proofs.Shifts.{shift_none, shift_at, set_alter, shift_book}
 use Rattle.sheets.proofs.sheet.Sheet.shift.Goals as goal
 
-pub returns-then-position-count : goal.returns-then-position-count
-returns-then-position-count g c =
+pub returns-in_err-ok_or : goal.returns-in_err-ok_or
+returns-in_err-ok_or g c =
     let s = c.args.self.now in
     let t = c.args.table.now in
     let m = c.args.by.map in
-    let v = c.count.ensures.value in
-    let h : min (held s t) (length t) ≤ c.args.position = omega arith in
-    let a = shift_none m c.args.position c.args.position (held s t) t h in
-    record { answer = a; table = refl; book = shift_book m s t t c.args.position _ c.args.by.lawful a refl }
-
-pub offset_bounds-table-position : goal.offset_bounds-table-position
-offset_bounds-table-position g c =
-    let w = c.count.ensures.within in
-    let l : c.args.position < length c.args.table.now = omega arith in
-    search rules
-
-pub offset_bounds-table-position-2 : goal.offset_bounds-table-position-2
-offset_bounds-table-position-2 g c =
-    let w = c.count.ensures.within in
-    let l : c.args.position < length c.args.table.now = omega arith in
-    search rules
+    let i = c.args.position in
+    let h : length (used s t) ≤ i = search rules in
+    let f : c.from_residual.result ≡ Err NoMark = search rules in
+    let a = f ∙ shift_none m i i (used s t) h in
+    let u = sym (ap (λ (z : Result ℕ SheetFault). where_granted z (alter i (moved_entry m) t) t) f) in
+    record { answer = a; table = u; book = shift_book m s t t i _ c.args.by.lawful a u }
 
 pub returns-then-not-is_on_page : goal.returns-then-not-is_on_page
 returns-then-not-is_on_page g c =
     let s = c.args.self.now in
     let t = c.args.table.now in
     let m = c.args.by.map in
-    let v = c.count.ensures.value in
-    let w = c.count.ensures.within in
-    let e = c.index-table-position.result in
-    let h : c.args.position < held s t = omega arith in
-    let l : c.args.position < length t = omega arith in
-    let b = c.if-not-is_on_page.ensures ∙ ap (λ (x : Entry _). page_offset x.numbers) c.carried-entry.ensures in
-    let a = ap (λ (z : Bool). cond z (Ok c.args.position) (Err (OffPage None))) b ∙ shift_at m c.args.position c.args.position (held s t) t e h l c.index-table-position.is in
-    record { answer = a; table = refl; book = shift_book m s t t c.args.position _ c.args.by.lawful a refl }
+    let i = c.args.position in
+    let e = c.in_ok-ok_or.field-0.now in
+    let h : i < length (used s t) = search rules in
+    let r : e ≡ get_or (used s t) i e = search rules in
+    let b = c.if-not-is_on_page.ensures ∙ ap (λ (x : Entry _). page_offset x.numbers) c.moved-entry.ensures in
+    let a = ap (λ (z : Bool). cond z (Ok i) (Err (OffPage None))) b ∙ shift_at m i i (used s t) e h r in
+    record { answer = a; table = refl; book = shift_book m s t t i _ c.args.by.lawful a refl }
 
 pub returns : goal.returns
 returns g c =
     let s = c.args.self.now in
     let t = c.args.table.now in
     let m = c.args.by.map in
-    let v = c.count.ensures.value in
-    let w = c.count.ensures.within in
-    let e = c.index-table-position.result in
-    let h : c.args.position < held s t = omega arith in
+    let i = c.args.position in
+    let e = c.in_ok-ok_or.field-0.now in
+    let h : i < length (used s t) = search rules in
+    let r : e ≡ get_or (used s t) i e = search rules in
+    let b = c.if-not-is_on_page.ensures ∙ ap (λ (x : Entry _). page_offset x.numbers) c.moved-entry.ensures in
+    let a = ap (λ (z : Bool). cond z (Ok i) (Err (OffPage None))) b ∙ shift_at m i i (used s t) e h r in
+    let n = used_count s t in
+    let k : i < held s t = omega arith in
+    let u = ap (set t i) c.moved-entry.ensures ∙ set_alter m i t e (omega arith) (r ∙ get_or-take (held s t) t i e k) in
+    record { answer = a; table = u; book = shift_book m s t _ i _ c.args.by.lawful a u }
+
+pub offset_bounds-table-position : goal.offset_bounds-table-position
+offset_bounds-table-position g c =
+    let s = c.args.self.now in
+    let t = c.args.table.now in
+    let h : c.args.position < length (used s t) = search rules in
+    let n = used_count s t in
     let l : c.args.position < length t = omega arith in
-    let b = c.if-not-is_on_page.ensures ∙ ap (λ (x : Entry _). page_offset x.numbers) c.carried-entry.ensures in
-    let a = ap (λ (z : Bool). cond z (Ok c.args.position) (Err (OffPage None))) b ∙ shift_at m c.args.position c.args.position (held s t) t e h l c.index-table-position.is in
-    let u = ap (set t c.args.position) c.carried-entry.ensures ∙ set_alter m c.args.position t e l c.index-table-position.is in
-    record { answer = a; table = u; book = shift_book m s t _ c.args.position _ c.args.by.lawful a u }
+    search rules

@@ -1,0 +1,63 @@
+//! A list on the standard input, taken line by line.
+ghost use Rattle.std.specs.Prelude.{ℕ, List, IfSome, OnOk};
+ghost use Rattle.std.specs.List.{FoldsTo};
+ghost use Rattle.cases.specs.Lines.{LinesOf, TextOf};
+
+use std::alloc::Global;
+use std::io;
+use std::io::{BufRead, BufReader, BufWriter, Write};
+use std::str::{Utf8Error, from_utf8};
+
+/// The text of a line, or none where there is nothing on it or a comment: a line that begins with `#`. It refuses a
+/// line that is no text.
+pub fn text_in(line: &[u8]) -> Result<Option<&str>, Utf8Error>
+    ensures { TextOf line.now result }
+{
+    let text = from_utf8(line)?;
+    if text.is_empty() || text.starts_with('#') {
+        Ok(None)
+    } else {
+        Ok(Some(text))
+    }
+}
+
+/// What takes the lines of a list one by one, and sums them up at the end.
+pub trait Taker {
+    /// What a line makes of what took those before it.
+    ghost takes: { Self → List ℕ → Self → Type 0 };
+
+    /// Takes the next line, without its end.
+    fn take(&mut self, line: &[u8], out: &mut impl Write) -> io::Result<()>
+        ensures { takes self.old line.now self.new };
+
+    /// Writes what came of the lines.
+    fn sum_up(&self, out: &mut impl Write) -> io::Result<()>;
+}
+
+/// Takes the lines of the standard input, and sums them up, on the standard output.
+pub fn run<T: Taker + Drop>(
+    mut taker: T,
+    rt: &(impl Input + Print + AllocGlobal),
+) -> io::Result<()> {
+    let mut out = BufWriter::new(rt.alloc(), io::writer(rt))?;
+    let input = BufReader::new(rt.alloc(), rt.reader())?;
+    take_lines(&mut taker, input, &mut out, rt.alloc())?;
+    taker.sum_up(&mut out)?;
+    out.flush()
+}
+
+/// Takes the lines of the input in turn.
+pub fn take_lines<T: Taker, R: BufRead + Drop>(
+    taker: &mut T,
+    input: R,
+    out: &mut impl Write,
+    heap: Global,
+) -> io::Result<()>
+    ensures { (lines : List (List ℕ)) × FoldsTo T.takes taker.old lines taker.new
+        × OnOk result (IfSome (R.remaining input) (λ bs. LinesOf bs lines)) }
+{
+    for line in input.split(heap, b'\n') {
+        taker.take(line?.as_slice(), out)?;
+    }
+    Ok(())
+}

@@ -1,8 +1,0 @@
--- None of the entries that were passed leaves the page.
-use Rattle.std.proofs.Common.{◌≡◌, map, take, drop}
-use Rattle.sheets.specs.Book.{leaving}
-use Rattle.sheets.specs.Tables.{row_of}
-use Rattle.sheets.proofs.calls.first_leaving.Given as goal
-
-abbrev pub invariant-loop-position : goal.invariant-loop-position
-invariant-loop-position g l = leaving 0 (map row_of (take l.count l.table)) l.by.map ≡ leaving l.position (map row_of (drop l.position (take l.count l.table))) l.by.map
