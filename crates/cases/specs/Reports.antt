@@ -1,6 +1,7 @@
 -- What is counted of a list. Assumes nothing.
-use Rattle.std.specs.Prelude.{◌≡◌, ℕ, ◌+◌, Bool, false, if◌then◌else◌, List, ◌++◌, codes, flat_map, replicate, slice_index_or, slice_set}
+use Rattle.std.specs.Prelude.{◌≡◌, ℕ, ◌+◌, ◌&&◌, Bool, false, not, nat_le, if◌then◌else◌, List, [], ◌++◌, Option, Some, codes, flat_map, replicate, slice_index_or, slice_set}
 use Rattle.std.specs.Fmt.{decimal}
+use Rattle.std.specs.Option.{option_map}
 use Rattle.cases.specs.declared.tally.Tally.{Tally}
 use Rattle.cases.specs.declared.report.Report.{Report}
 use Rattle.cases.specs.Counts.{none_yet, all_agree, at_most, counted}
@@ -46,6 +47,26 @@ module _ {K : Type 0} {n : ℕ} where
   -- no case is counted
   abbrev pub IsUnchanged : Report K n → Report K n → Type 0
   IsUnchanged old new = (tallies_of new ≡ tallies_of old) × (total_of new ≡ total_of old)
+
+  -- whether a line is written of a case, now that it is counted: where it differs, and no more than twenty do
+  abbrev pub is_shown : Report K n → Bool → Bool
+  is_shown r agrees = not agrees && nat_le (total_of r).differ 20
+
+  -- line LINE: NAME got TEXT
+  abbrev pub got_line : Report K n → List ℕ → List ℕ → List ℕ
+  got_line r name text = codes "line " ++ (decimal (lines_of r) ++ (codes ": " ++ (name ++ (codes " got " ++ (text ++ codes "\n")))))
+
+  -- that line where it is written, and else nothing
+  abbrev pub got_lines : Report K n → Bool → List ℕ → Option (List ℕ) → Option (List ℕ)
+  got_lines r agrees name text = if is_shown r agrees then option_map (got_line r name) text else Some []
+
+  -- line LINE: unreadable
+  abbrev pub unreadable_line : Report K n → List ℕ
+  unreadable_line r = codes "line " ++ (decimal (lines_of r) ++ codes ": unreadable\n")
+
+  -- that line where it is written, and else nothing
+  abbrev pub unreadable_lines : Report K n → List ℕ
+  unreadable_lines r = if is_shown r false then unreadable_line r else []
 
   -- NAME: AGREE of ALL agree
   abbrev pub kind_line : (K → List ℕ) → (K → ℕ) → Report K n → K → List ℕ

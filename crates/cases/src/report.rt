@@ -1,6 +1,7 @@
 //! What is counted of a list of cases, and what is written of it.
-ghost use Rattle.std.specs.Prelude.{◌≡◌, ℕ, ◌+◌, ◌<◌, Some};
-ghost use Rattle.cases.specs.Reports.{lines_of, summary, IsEmpty, IsUnchanged, Tallied, Unread};
+ghost use Rattle.std.specs.Prelude.{◌≡◌, ℕ, ◌+◌, ◌<◌, false, Some, IsTrue, IfSome, OnOk, OnErr};
+ghost use Rattle.std.specs.Io.KnownBytes.{Appends};
+ghost use Rattle.cases.specs.Reports.{lines_of, is_shown, got_lines, unreadable_lines, summary, IsEmpty, IsUnchanged, Tallied, Unread};
 ghost use Rattle.cases.specs.Counts.{none_yet, at_most};
 
 use super::named::Named;
@@ -55,16 +56,20 @@ impl<K: Counted<N>, const N: usize> Report<K, N> {
         self.lines = self.lines.saturating_add(1);
     }
 
-    /// Counts the line's case, for its kind and in all, and writes what it got if it differs.
-    pub fn count(
+    /// Counts the line's case, for its kind and in all, and writes what it got if it differs and no more than twenty do.
+    /// It fails only where it writes.
+    pub fn count<D: fmt::Display, W: Write>(
         &mut self,
         kind: K,
         agrees: bool,
-        got: &impl fmt::Display,
-        out: &mut impl Write,
+        got: &D,
+        out: &mut W,
     ) -> io::Result<()>
         ensures lines { lines_of self.new ≡ lines_of self.old }
         ensures counts { Tallied self.old (K.place_of kind) agrees self.new }
+        ensures written { OnOk result (IfSome (got_lines self.new agrees (K.name_of kind) (D.output got.now))
+            (Appends (W.contents out.old) (W.contents out.new))) }
+        ensures failed { OnErr result (IsTrue (is_shown self.new agrees)) }
     {
         self.tallies[kind.place()].count(agrees);
         self.total.count(agrees);
@@ -76,10 +81,13 @@ impl<K: Counted<N>, const N: usize> Report<K, N> {
         writeln!(out, "line {line}: {name} got {got}")
     }
 
-    /// Counts a line that cannot be read as one that differs, and writes so.
-    pub fn pass_over(&mut self, out: &mut impl Write) -> io::Result<()>
+    /// Counts a line that cannot be read as one that differs, and writes so if no more than twenty do. It fails only
+    /// where it writes.
+    pub fn pass_over<W: Write>(&mut self, out: &mut W) -> io::Result<()>
         ensures lines { lines_of self.new ≡ lines_of self.old }
         ensures counts { Unread self.old self.new }
+        ensures written { OnOk result (Appends (W.contents out.old) (W.contents out.new) (unreadable_lines self.new)) }
+        ensures failed { OnErr result (IsTrue (is_shown self.new false)) }
     {
         self.total.count(false);
         if SHOWN < self.total.differ {

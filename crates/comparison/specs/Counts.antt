@@ -1,5 +1,5 @@
 -- What is counted. Assumes nothing.
-use Rattle.std.specs.Prelude.{◌≡◌, ℕ, ◌+◌, Bool, IsTrue, ◌⊎◌, List}
+use Rattle.std.specs.Prelude.{◌≡◌, ℕ, ◌+◌, Bool, false, IsTrue, IsFalse, ◌⊎◌, List}
 use Rattle.std.specs.Str.{IsUtf8}
 use Rattle.cases.specs.Counts.{at_most}
 use Rattle.cases.specs.Lines.{IsSkipped}
@@ -25,16 +25,37 @@ IsUnchanged old new = Reports.IsUnchanged old.report new.report
 abbrev pub Agrees : Question → List ℕ → Type 0
 Agrees q expected = (a : Answer) × RightTo q a × AgreeBy (λ x y. IsTrue (equal (kind_of q) x y)) (text_of a) expected
 
--- a case counts for its kind and in all, and as one that agrees only if it does; or it is not counted, where there is no memory for its answer
-abbrev pub CountsCase : Comparison → Question → List ℕ → Comparison → Type 0
-CountsCase old q expected new = IsUnchanged old new
-    ⊎ ((b : Bool) × (IsTrue b → Agrees q expected) × Reports.Tallied old.report (place_of (kind_of q)) b new.report)
+-- a case counts for its kind and in all, and as one that agrees only if it does, also where what it got cannot be written
+abbrev pub TalliesCase : Comparison → Question → List ℕ → Bool → Comparison → Type 0
+TalliesCase old q expected ok new =
+    (b : Bool) × (IsTrue b → Agrees q expected)
+    × Reports.Tallied old.report (place_of (kind_of q)) b new.report
+    × (IsFalse ok → IsTrue (Reports.is_shown new.report b))
 
-pub record PutsCase (old : Comparison) (q : Question) (expected : List ℕ) (new : Comparison) : Type 0 where
+-- it counts, unless all does not go well: where there is no memory for its answer, it is not counted
+abbrev pub CountsCase : Comparison → Question → List ℕ → Bool → Comparison → Type 0
+CountsCase old q expected ok new = (IsFalse ok × IsUnchanged old new) ⊎ TalliesCase old q expected ok new
+
+pub record PutsCase (old : Comparison) (q : Question) (expected : List ℕ) (ok : Bool) (new : Comparison) : Type 0 where
   pub lines : Reports.lines_of new.report ≡ Reports.lines_of old.report
-  pub counts : CountsCase old q expected new
+  pub counts : CountsCase old q expected ok new
 
--- a line counts as no case where it is skipped; as one that differs, where it is no text or not skipped; or as its case
-pub record TakesLine (old : Comparison) (line : List ℕ) (new : Comparison) : Type 0 where
+-- a line that is skipped counts as no case, and all goes well
+abbrev pub SkipsLine : Comparison → List ℕ → Bool → Comparison → Type 0
+SkipsLine old line ok new = IsSkipped line × IsUnchanged old new × IsTrue ok
+
+-- a line that is no text or not skipped counts as one that differs, also where that cannot be written
+abbrev pub PassesOver : Comparison → List ℕ → Bool → Comparison → Type 0
+PassesOver old line ok new =
+    (IsUtf8 line → ¬ (IsSkipped line))
+    × Reports.Unread old.report new.report
+    × (IsFalse ok → IsTrue (Reports.is_shown new.report false))
+
+-- a line that has a case counts as that case does
+abbrev pub TakesCase : Comparison → List ℕ → Bool → Comparison → Type 0
+TakesCase old line ok new = (q : Question) × (e : List ℕ) × CaseOf line q e × CountsCase old q e ok new
+
+-- a line more is counted, as what it stands for
+pub record TakesLine (old : Comparison) (line : List ℕ) (ok : Bool) (new : Comparison) : Type 0 where
   pub lines : Reports.lines_of new.report ≡ at_most (Reports.lines_of old.report + 1)
-  pub counts : (IsSkipped line × IsUnchanged old new) ⊎ (((IsUtf8 line → ¬ (IsSkipped line)) × Reports.Unread old.report new.report) ⊎ ((q : Question) × (e : List ℕ) × CaseOf line q e × CountsCase old q e new))
+  pub counts : SkipsLine old line ok new ⊎ (PassesOver old line ok new ⊎ TakesCase old line ok new)

@@ -1,4 +1,5 @@
 //! What is counted, and what is written of it.
+ghost use Rattle.std.specs.Prelude.{◌≡◌, is_ok};
 ghost use Rattle.comparison.specs.Counts.{IsEmpty, PutsCase, TakesLine};
 
 use super::agree::same_words;
@@ -30,7 +31,7 @@ impl Comparison {
 
     // Puts the question, and counts whether it is answered as expected.
     fn put(&mut self, question: Question, expected: &str, out: &mut impl Write) -> io::Result<()>
-        ensures { PutsCase self.old question expected.now self.new }
+        ensures { PutsCase self.old question expected.now (is_ok result) self.new }
     {
         let kind = question.kind();
         let got = question.answer_text(self.heap)?;
@@ -42,6 +43,8 @@ impl Comparison {
 
 impl Taker for Comparison {
     ghost takes = { TakesLine };
+
+    ghost sums_up = { λ old ok new. new ≡ old };
 
     // Counts the line, and writes it if it differs.
     fn take(&mut self, line: &[u8], out: &mut impl Write) -> io::Result<()> {
@@ -56,7 +59,7 @@ impl Taker for Comparison {
         }
     }
 
-    fn sum_up(&self, out: &mut impl Write) -> io::Result<()> {
+    fn sum_up(&mut self, out: &mut impl Write) -> io::Result<()> {
         write!(out, "{}", self.report)
     }
 }

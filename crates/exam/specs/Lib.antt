@@ -1,3 +1,6 @@
-pub mod Uppermost
-pub mod Verdicts
+pub mod Drawings
+pub mod Replies
+pub mod Rooms
 pub mod Sittings
+pub mod Tellings
+pub mod Texts

@@ -1,8 +1,13 @@
-//! An examination in choral engraving: marks laid on a page one above another, and points set on it
-//! with a key that says on which mark, if on any, each of them should lie.
+//! An examination in choral engraving: the orders of a sitting, carried out on a sheet of marks and a sheet of frames,
+//! and the set points marked.
 #![tactic(auto)]
 
-pub mod points;
-pub mod sitting;
+pub mod account;
+mod ask;
+pub mod reply;
+pub mod room;
+pub mod step;
+pub mod tell;
 #[cfg(test)]
 mod tests;
+pub mod text;

@@ -1,4 +1,3 @@
 pub mod Refusals
 pub mod Signs
-pub mod Chosen
 pub mod Onward

@@ -2,7 +2,6 @@ pub mod MoveFaults
 pub mod Moves
 pub mod Placings
 pub mod Coverings
-pub mod Specimens
 pub mod Onward
 pub mod Covered
 pub mod Boxes

@@ -1,5 +1,5 @@
--- The refusals of a move: for every case its number and its name. Assumes nothing.
-use Rattle.std.specs.Prelude.{ℕ, List, codes}
+-- The refusals of a move: for every case its number, its name and its text. Assumes nothing.
+use Rattle.std.specs.Prelude.{ℕ, List, ◌++◌, codes, decimal}
 use Rattle.plane.specs.declared.fault.PageFault.{PageFault}
 use Rattle.plane.specs.declared.fault.PageFault.TheVariants as Offsets
 use Rattle.layers.specs.declared.fault.MoveFault.{MoveFault}
@@ -14,6 +14,10 @@ abbrev pub name_of : MoveFault → List ℕ
 name_of NotATurn = codes "NOT A TURN"
 name_of OffGrid = codes "OFF GRID"
 name_of OffPage = codes "OFF PAGE"
+
+-- the number and the name
+abbrev pub text_of : MoveFault → List ℕ
+text_of f = decimal (number_of f) ++ (codes " " ++ name_of f)
 
 -- an offset's fault, as a point's
 abbrev pub of_offset : PageFault → MoveFault

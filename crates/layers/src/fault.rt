@@ -1,8 +1,9 @@
 //! Why numbers make no move.
-ghost use Rattle.std.specs.Prelude.{◌≡◌};
-ghost use Rattle.layers.specs.MoveFaults.{number_of, name_of, of_offset};
+ghost use Rattle.std.specs.Prelude.{◌≡◌, Some};
+ghost use Rattle.layers.specs.MoveFaults.{number_of, name_of, text_of, of_offset};
 
 use plane::fault::PageFault;
+use std::fmt;
 
 /// Why an affine map is no move. The cases stand in the order in which they are tried.
 #[derive(Clone, Copy, Debug, PartialEq, Eq)]
@@ -36,6 +37,17 @@ impl MoveFault {
             MoveFault::OffGrid => "OFF GRID",
             MoveFault::OffPage => "OFF PAGE",
         }
+    }
+}
+
+// The number and the name.
+impl fmt::Display for MoveFault {
+    ghost output = { λ f. Some (text_of f) };
+
+    fn fmt<W: fmt::Write>(&self, f: &mut fmt::Formatter<W>) -> fmt::Result {
+        let number = self.number();
+        let name = self.name();
+        write!(f, "{number} {name}")
     }
 }
 

@@ -5,4 +5,3 @@ pub mod covering;
 pub mod fault;
 pub mod moves;
 pub mod placing;
-pub mod specimens;

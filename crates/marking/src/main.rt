@@ -1,14 +1,11 @@
-//! Marks an examination in choral engraving. Each line of the standard input lays a mark on the page or sets a point
-//! on it with its key; each is answered on a line of its own, and the count comes last.
+//! Marks an examination in choral engraving. Each line of the standard input is an order of a sitting; each is answered on
+//! a line of its own, and the counts come last.
 #![tactic(auto)]
 
-mod paper;
-mod read;
-
 use cases::lines::run;
-use paper::Paper;
+use sittings::sitting::Sitting;
 
 fn main(rt: HostRuntime) -> anyhow::Result<()> {
-    run(Paper::new(rt.alloc()), &rt)?;
+    run(Sitting::new(rt.alloc()), &rt)?;
     Ok(())
 }

@@ -7,6 +7,8 @@ ghost use Rattle.marks.specs.Marks.{wind};
 ghost use Rattle.marks.specs.Marks.{wind as mark_wind, box as mark_box, drawn as mark_drawn, rest as path_rest};
 ghost use Rattle.marks.specs.Lawful.{mark_small, mark_same, mark_boxed, mark_formed};
 
+use ellipses::ellipse::Ellipse;
+use ellipses::path::EllipsePath;
 use plane::bezpath::PathEl;
 use plane::closed_path::ClosedPath;
 use plane::cursor::Cursor;
@@ -14,6 +16,8 @@ use plane::fault::ShapeFault;
 use plane::point::Point;
 use plane::rect::Rect;
 use plane::shape::Shape;
+use rounded::path::RoundedRectPath;
+use rounded::rounded_rect::RoundedRect;
 use shapes::circle::{Circle, CirclePath};
 use shapes::triangle::Triangle;
 
@@ -26,6 +30,10 @@ pub enum Mark {
     Circle(Circle),
     /// A triangle.
     Triangle(Triangle),
+    /// A rectangle with rounded corners.
+    RoundedRect(RoundedRect),
+    /// An ellipse.
+    Ellipse(Ellipse),
 }
 
 impl Mark {
@@ -46,6 +54,10 @@ pub enum MarkPath {
     Circle(CirclePath),
     /// On a triangle's.
     Triangle(ClosedPath<3>),
+    /// On a rounded rectangle's.
+    RoundedRect(RoundedRectPath),
+    /// On an ellipse's.
+    Ellipse(EllipsePath),
 }
 
 impl Iterator for MarkPath {
@@ -60,6 +72,8 @@ impl Iterator for MarkPath {
             MarkPath::Rect(c) => c.next(),
             MarkPath::Circle(c) => c.next(),
             MarkPath::Triangle(c) => c.next(),
+            MarkPath::RoundedRect(c) => c.next(),
+            MarkPath::Ellipse(c) => c.next(),
         }
     }
 }
@@ -96,6 +110,8 @@ impl Shape for Mark {
             Mark::Rect(s) => s.winding(pt),
             Mark::Circle(s) => s.winding(pt),
             Mark::Triangle(s) => s.winding(pt),
+            Mark::RoundedRect(s) => s.winding(pt),
+            Mark::Ellipse(s) => s.winding(pt),
         }
     }
 
@@ -104,6 +120,8 @@ impl Shape for Mark {
             Mark::Rect(s) => s.bounding_box(),
             Mark::Circle(s) => s.bounding_box(),
             Mark::Triangle(s) => s.bounding_box(),
+            Mark::RoundedRect(s) => s.bounding_box(),
+            Mark::Ellipse(s) => s.bounding_box(),
         }
     }
 
@@ -112,6 +130,8 @@ impl Shape for Mark {
             Mark::Rect(s) => Ok(MarkPath::Rect(s.path_elements(tolerance)?)),
             Mark::Circle(s) => Ok(MarkPath::Circle(s.path_elements(tolerance)?)),
             Mark::Triangle(s) => Ok(MarkPath::Triangle(s.path_elements(tolerance)?)),
+            Mark::RoundedRect(s) => Ok(MarkPath::RoundedRect(s.path_elements(tolerance)?)),
+            Mark::Ellipse(s) => Ok(MarkPath::Ellipse(s.path_elements(tolerance)?)),
         }
     }
 }

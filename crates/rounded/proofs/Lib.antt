@@ -1,2 +1,1 @@
 pub mod Repairs
-pub mod Chosen

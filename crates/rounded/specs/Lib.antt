@@ -1,7 +1,6 @@
 pub mod Radii
 pub mod Roundings
 pub mod Shrunk
-pub mod Specimens
 pub mod Outlines
 pub mod Corners
 pub mod Halves

@@ -4,6 +4,5 @@
 pub mod path;
 pub mod rounded_rect;
 pub mod rounded_rect_radii;
-pub mod specimens;
 #[cfg(test)]
 mod tests;

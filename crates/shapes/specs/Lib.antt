@@ -1,7 +1,6 @@
 pub mod Circles
 pub mod Corners
 pub mod Triangles
-pub mod Specimens
 pub mod Round
 pub mod Threecornered
 pub mod Means

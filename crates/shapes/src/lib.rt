@@ -2,5 +2,4 @@
 #![tactic(auto)]
 
 pub mod circle;
-pub mod specimens;
 pub mod triangle;

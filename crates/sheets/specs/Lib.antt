@@ -4,3 +4,4 @@ pub mod Tables
 pub mod Draws
 pub mod Sound
 pub mod Runs
+pub mod Answers

@@ -1,5 +1,5 @@
--- The refusals of a sheet: for every case its number and its name. Assumes nothing.
-use Rattle.std.specs.Prelude.{ℕ, List, None, codes}
+-- The refusals of a sheet: for every case its number, its name, what it names, and its text. Assumes nothing.
+use Rattle.std.specs.Prelude.{ℕ, List, [], ◌++◌, Some, None, codes, decimal}
 use Rattle.plane.specs.declared.fault.PageFault.{PageFault}
 use Rattle.plane.specs.declared.fault.PageFault.TheVariants as Points
 use Rattle.plane.specs.Faults as shapes
@@ -26,6 +26,33 @@ name_of OffGrid = codes "OFF GRID"
 name_of (OffPage mark) = codes "OFF PAGE"
 name_of TooSmall = codes "TOO SMALL"
 name_of (Path f) = shapes.name_of f.fault
+
+-- the mark that is named, after a blank
+abbrev pub mark_text : SheetFault → List ℕ
+mark_text Tolerance = []
+mark_text NotFinite = []
+mark_text Full = []
+mark_text NoMark = []
+mark_text OffGrid = []
+mark_text (OffPage None) = []
+mark_text (OffPage (Some i)) = codes " at mark " ++ decimal i
+mark_text TooSmall = []
+mark_text (Path f) = codes " at mark " ++ decimal f.position
+
+-- the corner that a refused path names, after a blank
+abbrev pub corner_text : SheetFault → List ℕ
+corner_text Tolerance = []
+corner_text NotFinite = []
+corner_text Full = []
+corner_text NoMark = []
+corner_text OffGrid = []
+corner_text (OffPage mark) = []
+corner_text TooSmall = []
+corner_text (Path f) = shapes.corner_text f.fault
+
+-- the number and the name, and then the mark and the corner that are named
+abbrev pub text_of : SheetFault → List ℕ
+text_of f = decimal (number_of f) ++ (codes " " ++ (name_of f ++ (mark_text f ++ corner_text f)))
 
 -- a mark's fault as the sheet's: whole, beside its position
 abbrev pub of_mark : MarkFault → SheetFault

@@ -1,8 +1,9 @@
 //! Why a sheet refuses a call.
-ghost use Rattle.std.specs.Prelude.{◌≡◌};
-ghost use Rattle.sheets.specs.SheetFaults.{number_of, name_of, of_mark, of_point};
+ghost use Rattle.std.specs.Prelude.{◌≡◌, Some};
+ghost use Rattle.sheets.specs.SheetFaults.{number_of, name_of, text_of, of_mark, of_point};
 
 use plane::fault::{PageFault, ShapeFault};
+use std::fmt;
 
 /// What a mark's path refuses, with the mark's position.
 #[derive(Clone, Copy, Debug, PartialEq, Eq)]
@@ -68,6 +69,32 @@ impl SheetFault {
             SheetFault::OffPage { mark: _ } => "OFF PAGE",
             SheetFault::TooSmall => "TOO SMALL",
             SheetFault::Path(f) => f.fault.name(),
+        }
+    }
+}
+
+// The number and the name, and then the mark and the corner where they are named.
+impl fmt::Display for SheetFault {
+    ghost output = { λ f. Some (text_of f) };
+
+    fn fmt<W: fmt::Write>(&self, f: &mut fmt::Formatter<W>) -> fmt::Result {
+        let number = self.number();
+        let name = self.name();
+        match self {
+            SheetFault::OffPage { mark: Some(mark) } => write!(f, "{number} {name} at mark {mark}"),
+            SheetFault::Path(path) => {
+                let mark = path.position;
+                match path.fault {
+                    ShapeFault::TooFine {
+                        corner: Some(corner),
+                    } => {
+                        let corner = corner.number();
+                        write!(f, "{number} {name} at mark {mark} corner {corner}")
+                    }
+                    _ => write!(f, "{number} {name} at mark {mark}"),
+                }
+            }
+            _ => write!(f, "{number} {name}"),
         }
     }
 }

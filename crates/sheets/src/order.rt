@@ -1,4 +1,7 @@
 //! Orders to a sheet, and its answers.
+ghost use Rattle.std.specs.Prelude.{◌≡◌};
+ghost use Rattle.sheets.specs.Answers.{elements_of};
+
 use super::fault::SheetFault;
 use layers::moves::Move;
 use plane::point::Point;
@@ -42,4 +45,16 @@ pub enum Answer {
     Elements(usize),
     /// The call was refused, and altered nothing.
     Refused(SheetFault),
+}
+
+impl Answer {
+    /// How many elements were drawn; any other answer counts none.
+    pub fn elements(self) -> usize
+        ensures { result ≡ elements_of self }
+    {
+        match self {
+            Answer::Elements(n) => n,
+            _ => 0,
+        }
+    }
 }

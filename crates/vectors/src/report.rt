@@ -1,4 +1,5 @@
 //! What is counted, and what is written of it.
+ghost use Rattle.std.specs.Prelude.{◌≡◌};
 ghost use Rattle.vectors.specs.Counts.{IsEmpty, TakesLine};
 
 use super::case::{Case, Function, NoCase};
@@ -27,6 +28,8 @@ impl Vectors {
 impl Taker for Vectors {
     ghost takes = { TakesLine };
 
+    ghost sums_up = { λ old ok new. new ≡ old };
+
     // Counts the line, and writes it if it differs.
     fn take(&mut self, line: &[u8], out: &mut impl Write) -> io::Result<()> {
         self.report.next_line();
@@ -40,7 +43,7 @@ impl Taker for Vectors {
         }
     }
 
-    fn sum_up(&self, out: &mut impl Write) -> io::Result<()> {
+    fn sum_up(&mut self, out: &mut impl Write) -> io::Result<()> {
         write!(out, "{}", self.report)
     }
 }

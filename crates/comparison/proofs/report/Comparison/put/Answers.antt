@@ -8,5 +8,5 @@ returns g c =
     let answered = c.in_ok-got.ensures in
     record {
       lines = c.count.ensures.lines;
-      counts = inr (c.same_words-agrees.result, (λ t. (answered.0, answered.1, agree_by_map _ _ _ _ _ (c.as_str-got.ensures.value ∙ answered.2) (λ x y h. search rules) (c.same_words-agrees.ensures t))), search rules);
+      counts = inr (c.same_words-agrees.result, (λ t. (answered.0, answered.1, agree_by_map _ _ _ _ _ (c.as_str-got.ensures.value ∙ answered.2) (λ x y h. search rules) (c.same_words-agrees.ensures t))), search rules, search rules);
     }

@@ -12,5 +12,5 @@ returns-in-Some g c =
     let on_line : CaseOf c.args.line.now c.in-Some.question c.in-Some.expected.now = rw text.0 at told in
     record {
       lines = c.put.ensures.lines ∙ c.next_line.ensures.lines;
-      counts = inr (inr (c.in-Some.question, c.in-Some.expected.now, on_line, then_counts c.args.self.now (record { report = c.next_line.new.self; heap = c.args.self.now.heap }) c.put.new.self _ _ c.next_line.ensures.counts c.put.ensures.counts));
+      counts = inr (inr (c.in-Some.question, c.in-Some.expected.now, on_line, then_counts c.args.self.now (record { report = c.next_line.new.self; heap = c.args.self.now.heap }) c.put.new.self _ _ _ c.next_line.ensures.counts c.put.ensures.counts));
     }

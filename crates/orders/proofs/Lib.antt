@@ -1,0 +1,9 @@
+mod Comments
+mod Found
+mod Loop
+mod Made
+mod Numbers
+mod Others
+mod Says
+mod Spelled
+mod Split

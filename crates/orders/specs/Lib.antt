@@ -1,0 +1,11 @@
+pub mod Covers
+pub mod Grammar
+pub mod Kinds
+pub mod Lines
+pub mod Moved
+pub mod Reasons
+pub mod Runs
+pub mod Sheets
+pub mod Values
+pub mod Views
+pub mod Words

@@ -1,0 +1,9 @@
+#!/bin/sh
+# Makes the sittings and the model's answers anew, and counts what they have.
+set -eu
+here=$(cd "$(dirname "$0")" && pwd)
+replay=$(cd "$here/../../crates" && pwd)/replay
+mkdir -p "$replay"
+python3.11 "$here/make.py" "$replay/stdin" > /dev/null
+python3.11 "$here/model.py" < "$replay/stdin" > "$replay/stdout"
+python3.11 "$here/tally.py" "$replay/stdout"
