@@ -6,7 +6,7 @@ use Rattle.sittings.specs.Tallies.{one_more, none_yet}
 
 -- before the first line
 abbrev pub fresh : State
-fresh = record { sizes = record { entries = 65536; places = 262144 }; steps = []; is_open = false; lines = 0; tally = none_yet }
+fresh = record { sizes = record { entries = 65536; places = 262144 }; steps = []; is_open = false; notes = []; lines = 0; tally = none_yet }
 
 -- Where all went well, the line made of it what it says. Else the heap gave no more, or the output took no more; the line is counted.
 pub record TakesLine (old : Sitting) (line : List ℕ) (ok : Bool) (new : Sitting) : Type 0 where

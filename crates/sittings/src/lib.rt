@@ -4,3 +4,4 @@
 
 pub mod sitting;
 pub mod tally;
+pub mod transcript;

@@ -1,29 +1,22 @@
 //! The sitting as it goes on, line by line.
-ghost use Rattle.std.specs.Prelude.{◌≡◌, OnOk};
+ghost use Rattle.std.specs.Prelude.{◌≡◌, ℕ, List, OnOk, is_ok};
+ghost use Rattle.std.specs.Io.KnownBytes.{Appends};
+ghost use Rattle.orders.specs.Reasons.{reason_of};
+ghost use Rattle.orders.specs.declared.line.Line.TheVariants as lines;
 ghost use Rattle.sittings.specs.Lines.{fresh, TakesLine, SumsUp};
 ghost use Rattle.sittings.specs.States.{state_of, obeyed, begun, added, passed_over, ended};
+ghost use Rattle.sittings.specs.Transcripts.{EndSays, ObeyedSays, LineSays, CloseSays};
 
 use super::tally::Tally;
+use super::transcript::{Note, write_page};
 use cases::lines::Taker;
-use exam::reply::Reply;
 use exam::room::Room;
 use exam::step::{Sizes, Step};
-use exam::tell::Told;
-use exam::text::Element;
 use orders::line::{Line, order_in, read};
 use orders::unreadable::Unreadable;
-use plane::bezpath::PathEl;
 use std::alloc::{AllocError, Global};
 use std::io;
 use std::io::Write;
-use std::slice::Iter;
-
-// A line of a page that is to be answered: what is written before its answer, or instead of it where it is no order.
-#[derive(Drop)]
-struct Note {
-    text: String,
-    is_order: bool,
-}
 
 /// A sitting: the page that is open, the room where its orders will be carried out, and what was counted so far.
 #[derive(Drop)]
@@ -56,8 +49,9 @@ impl Sitting {
     }
 
     // Does what a line says.
-    fn obey(&mut self, line: Line, text: &str, out: &mut impl Write) -> io::Result<()>
-        ensures obeyed { OnOk result (state_of self.new ≡ obeyed line (state_of self.old)) }
+    fn obey<W: Write>(&mut self, line: Line, text: &str, out: &mut W) -> io::Result<()>
+        ensures obeyed { OnOk result (state_of self.new ≡ obeyed text.now line (state_of self.old)) }
+        ensures written { OnOk result ((said : List ℕ) × ObeyedSays text.now line (state_of self.old) said × Appends (W.contents out.old) (W.contents out.new) said) }
         ensures lines { self.new.lines ≡ self.old.lines }
     {
         match line {
@@ -67,8 +61,9 @@ impl Sitting {
     }
 
     // Ends the open page, and begins another.
-    fn turn_over(&mut self, sizes: Sizes, text: &str, out: &mut impl Write) -> io::Result<()>
+    fn turn_over<W: Write>(&mut self, sizes: Sizes, line: &str, out: &mut W) -> io::Result<()>
         ensures begun { OnOk result (state_of self.new ≡ begun sizes (ended (state_of self.old))) }
+        ensures written { OnOk result ((said : List ℕ) × ObeyedSays line.now (lines.Page sizes) (state_of self.old) said × Appends (W.contents out.old) (W.contents out.new) said) }
         ensures lines { self.new.lines ≡ self.old.lines }
     {
         self.end_page(out)?;
@@ -77,20 +72,17 @@ impl Sitting {
         self.tally.count_page();
         self.tally.count_page_line();
         let number = self.lines;
-        writeln!(out, "{number} {text} -> 0 marks")
+        writeln!(out, "{number} {line} -> 0 marks")
     }
 
     // Adds an order to the open page. The first one before any page begins one.
-    fn add(&mut self, step: Step, text: &str) -> Result<(), AllocError>
-        ensures added { OnOk result (state_of self.new ≡ added step (state_of self.old)) }
+    fn add(&mut self, step: Step, line: &str) -> Result<(), AllocError>
+        ensures added { OnOk result (state_of self.new ≡ added line.now step (state_of self.old)) }
         ensures lines { self.new.lines ≡ self.old.lines }
     {
         let number = self.lines;
-        let text = format!(in self.heap; "{number} {text}")?;
-        self.notes.push(Note {
-            text,
-            is_order: true,
-        })?;
+        let text = format!(in self.heap; "{number} {line}")?;
+        self.notes.push(Note::Order(text))?;
         self.steps.push(step)?;
         if !self.is_open {
             self.is_open = true;
@@ -101,41 +93,37 @@ impl Sitting {
 
     // Counts a line that cannot be read, and notes why.
     fn pass_over(&mut self, why: Unreadable<'_>) -> Result<(), AllocError>
-        ensures passed { OnOk result (state_of self.new ≡ passed_over (state_of self.old)) }
+        ensures passed { OnOk result (state_of self.new ≡ passed_over (reason_of why.entry) (state_of self.old)) }
         ensures lines { self.new.lines ≡ self.old.lines }
     {
         self.tally.count_unreadable();
         let number = self.lines;
         let text = format!(in self.heap; "{number} unreadable: {why}")?;
-        self.notes.push(Note {
-            text,
-            is_order: false,
-        })?;
+        self.notes.push(Note::Unreadable(text))?;
         Ok(())
     }
 
     // Carries out the orders of the open page, counts them, and writes the answers in the order of its lines.
-    fn end_page(&mut self, out: &mut impl Write) -> io::Result<()>
+    fn end_page<W: Write>(&mut self, out: &mut W) -> io::Result<()>
         ensures ended { OnOk result (state_of self.new ≡ ended (state_of self.old)) }
+        ensures written { OnOk result ((said : List ℕ) × EndSays (state_of self.old) said × Appends (W.contents out.old) (W.contents out.new) said) }
         ensures lines { self.new.lines ≡ self.old.lines }
     {
         let told = self.room.sit(self.sizes, self.steps.as_slice())?;
-        write_answers(self.notes.as_slice(), &told, out)?;
+        write_page(self.notes.as_slice(), &told, self.heap, out)?;
         self.tally
             .count_orders(self.steps.as_slice(), told.replies.as_slice());
         self.steps.clear();
         self.notes.clear();
         Ok(())
     }
-}
 
-impl Taker for Sitting {
-    ghost takes = { TakesLine };
-
-    ghost sums_up = { SumsUp };
-
-    // Reads the line. An order is answered once its page is complete, and one that begins a page at once.
-    fn take(&mut self, line: &[u8], out: &mut impl Write) -> io::Result<()> {
+    /// Takes the next line. One that begins a page ends the page before it, which is written with its answers, and is
+    /// answered at once; any other waits until its page ends. It fails only where there is no memory, or where it writes.
+    pub fn take_line<W: Write>(&mut self, line: &[u8], out: &mut W) -> io::Result<()>
+        ensures takes { TakesLine self.old line.now (is_ok result) self.new }
+        ensures written { OnOk result ((said : List ℕ) × LineSays line.now (state_of self.old) said × Appends (W.contents out.old) (W.contents out.new) said) }
+    {
         self.lines = self.lines.saturating_add(1);
         match order_in(line) {
             Ok("") => Ok(()),
@@ -147,40 +135,28 @@ impl Taker for Sitting {
         }
     }
 
-    // Ends the last page, and writes what was counted.
-    fn sum_up(&mut self, out: &mut impl Write) -> io::Result<()> {
+    /// Ends the last page, and writes it with its answers, and then the counts. It fails only where there is no memory, or
+    /// where it writes.
+    pub fn close<W: Write>(&mut self, out: &mut W) -> io::Result<()>
+        ensures sums_up { SumsUp self.old (is_ok result) self.new }
+        ensures written { OnOk result ((said : List ℕ) × CloseSays (state_of self.old) said × Appends (W.contents out.old) (W.contents out.new) said) }
+    {
         self.end_page(out)?;
         let tally = self.tally;
         writeln!(out, "{tally}")
     }
 }
 
-// Writes what was noted of each line, and behind each order its answer, with the elements that it counts after it, one a
-// line.
-fn write_answers(notes: &[Note], told: &Told, out: &mut impl Write) -> io::Result<()> {
-    let mut replies = told.replies.iter();
-    let mut drawn = told.drawn.iter();
-    for note in notes {
-        out.write_all(note.text.as_bytes())?;
-        let reply = if note.is_order { replies.next() } else { None };
-        match reply {
-            Some(reply) => write_answer(reply, &mut drawn, out)?,
-            None => out.write_all(b"\n")?,
-        }
-    }
-    Ok(())
-}
+impl Taker for Sitting {
+    ghost takes = { TakesLine };
 
-fn write_answer(
-    reply: &Reply,
-    drawn: &mut Iter<'_, PathEl>,
-    out: &mut impl Write,
-) -> io::Result<()> {
-    writeln!(out, " -> {reply}")?;
-    for _ in 0..reply.elements() {
-        if let Some(el) = drawn.next() {
-            writeln!(out, "{}", Element(*el))?;
-        }
+    ghost sums_up = { SumsUp };
+
+    fn take(&mut self, line: &[u8], out: &mut impl Write) -> io::Result<()> {
+        self.take_line(line, out)
     }
-    Ok(())
+
+    fn sum_up(&mut self, out: &mut impl Write) -> io::Result<()> {
+        self.close(out)
+    }
 }
