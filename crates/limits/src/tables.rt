@@ -6,6 +6,8 @@ use plane::point::Point;
 use plane::rect::Rect;
 use plane::shape::Shape;
 use sheets::fault::SheetFault;
+use sheets::order::{Answer, Order};
+use sheets::run::carry_out;
 use sheets::sheet::{Entry, Sheet};
 use std::test::Fail;
 
@@ -68,5 +70,28 @@ fn table_and_buffer_full(rt: HostRuntime) -> Result<(), Fail> {
     assert_eq!(rt; refusal(sheet.draw(&table, 1.0, &mut short)), 8);
     let mut exact = [PathEl::ClosePath; 15];
     assert_eq!(rt; sheet.draw(&table, 1.0, &mut exact)?, 15);
+    Ok(())
+}
+
+#[test]
+fn a_list_is_carried_out(rt: HostRuntime) -> Result<(), Fail> {
+    let orders = [
+        Order::Put(MARK, Move::unmoved()),
+        Order::Draw(1.0),
+        Order::Lift(0),
+        Order::Lift(0),
+    ];
+    let mut table = table();
+    let mut buffer = [PathEl::ClosePath; 5];
+    let mut answers = [Answer::Marks(9); 5];
+    let (sheet, count) = carry_out(&mut table, &mut buffer, &orders, &mut answers);
+    assert_eq!(rt; count, 4);
+    assert_eq!(rt; sheet.count(&table), 0);
+    assert!(rt; matches!(answers[0], Answer::Position(0)));
+    assert!(rt; matches!(answers[1], Answer::Elements(5)));
+    assert!(rt; buffer[2] == PathEl::LineTo(Point::new(2.0, 1.0)));
+    assert!(rt; matches!(answers[2], Answer::Marks(0)));
+    assert!(rt; matches!(answers[3], Answer::Refused(SheetFault::NoMark)));
+    assert!(rt; matches!(answers[4], Answer::Marks(9)));
     Ok(())
 }

@@ -19,7 +19,7 @@ use Rattle.sheets.specs.Tables.{used, rows, row_of, AnsweredByBook}
 use Rattle.sheets.proofs.Agree.{SameWindings, at_page, total_agree, highest_agree, union_agree}
 
 -- ---- one more entry
-rows_more : {M : Type 0} (t : List (Entry M)) (i : ℕ) (e : Entry M) → i < length t → e ≡ get_or t i e → map row_of (take (i + 1) t) ≡ map row_of (take i t) ++ (row_of e ∷ [])
+pub rows_more : {M : Type 0} (t : List (Entry M)) (i : ℕ) (e : Entry M) → i < length t → e ≡ get_or t i e → map row_of (take (i + 1) t) ≡ map row_of (take i t) ++ (row_of e ∷ [])
 rows_more {M} t i e h r = ap (map row_of) (take_more t i e h ∙ ap (λ (d : Entry M). take i t ++ (d ∷ [])) (sym r)) ∙ map-append row_of (take i t) (e ∷ [])
 
 -- z lies between -n and n

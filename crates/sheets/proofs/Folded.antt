@@ -79,4 +79,4 @@ module _ {M : Type 0} (k : Marks M) where
   pub book_of : LawsOf k → (t t' : List (Entry M)) (b b' : List PathEl) (os : List (Order M)) (said : List Answer) (s' : Sheet) → RunByBook k (counting 0) t b os said s' t' b' → BookOf k t b os said s' t' b'
   book_of law t t' b b' os said s' run =
       let R = run [] (opening t) in
-      record { answered = R.0; drawn = R.1.1; stands = R.1.0; sound = sound k law (ends k (length t) [] os) (keep_ends k (length t) [] os tt) }
+      record { answered = R.0; drawn = R.1.1; stands = R.1.0; sound = λ front rest e. sound k law (ends k (length t) [] front) (keep_ends k (length t) [] front tt) }

@@ -10,3 +10,4 @@ pub mod Sounds
 pub mod Asked
 pub mod Folded
 pub mod Found
+pub mod Moments

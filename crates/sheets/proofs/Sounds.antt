@@ -38,6 +38,11 @@ pub record LawsOf {M : Type 0} (k : Marks M) : Type 0 where
   pub boxed : (m : M) (p : Point) → FiniteBox (k.frame m) → FieldPoint p → (k.wind m p ≡ pos 0 → ⊥) → InBox (k.frame m) p
   pub formed : (m : M) (t : Float) → WellDrawn (k.drawn m t)
 
+-- those of a shape
+pub laws : {M : Type 0} {k : Marks M} → ((m : M) (p q : Point) → Same p q → k.wind m q ≡ k.wind m p)
+    → ((m : M) (p : Point) → FiniteBox (k.frame m) → FieldPoint p → (k.wind m p ≡ pos 0 → ⊥) → InBox (k.frame m) p) → ((m : M) (t : Float) → WellDrawn (k.drawn m t)) → LawsOf k
+laws same boxed formed = record { same = same; boxed = boxed; formed = formed }
+
 module _ {M : Type 0} (k : Marks M) where
   -- ---- what every row keeps: its moves were granted, and its mark's box is finite
   abbrev pub Keeps : Row M → Type 0

@@ -1,5 +1,5 @@
--- What the book answers to a list of orders, and what rows and what buffer it leaves. Assumes nothing.
-use Rattle.std.specs.Prelude.{◌≡◌, ℕ, ◌+◌, ◌-◌, List, [], ◌∷◌, length, Ok, Err, Result}
+-- What the book answers to a list of orders, what rows and what buffer it leaves, and each call of a sheet at any moment. Assumes nothing.
+use Rattle.std.specs.Prelude.{◌≡◌, ℕ, ◌+◌, ◌-◌, List, [], ◌∷◌, ◌++◌, length, Ok, Err, Result}
 use Rattle.plane.specs.declared.bezpath.PathEl.{PathEl}
 use Rattle.sheets.specs.declared.fault.SheetFault.{SheetFault}
 use Rattle.sheets.specs.declared.order.Order.{Order}
@@ -102,9 +102,25 @@ RunByBook {M} k s t buffer os answers s' t' buffer' =
     (bs : List (Row M)) → StandsFor s t bs
     → (answers ≡ replies k (length t) (length buffer) bs os) × (StandsFor s' t' (ends k (length t) bs os) × (buffer' ≡ page k (length t) bs buffer os))
 
--- a list of orders from the opening on: answers and buffer are the book's, what is left stands for its rows, so that the next call is answered by the book too, and those rows are sound
+-- a list of orders from the opening on: answers and buffer are the book's, what is left stands for its rows, so that the next call is answered by the book too, and the rows are sound after every first part of the list
 pub record BookOf {M : Type 0} (k : Marks M) (t : List (Entry M)) (buffer : List PathEl) (os : List (Order M)) (answers : List Answer) (s' : Sheet) (t' : List (Entry M)) (buffer' : List PathEl) : Type 0 where
   pub answered : answers ≡ replies k (length t) (length buffer) [] os
   pub drawn : buffer' ≡ page k (length t) [] buffer os
   pub stands : StandsFor s' t' (ends k (length t) [] os)
+  pub sound : (front rest : List (Order M)) → os ≡ front ++ rest → Sound k (ends k (length t) [] front)
+
+-- ---- one call after any history
+-- how a sheet and a table stand after these calls, where the sheet was opened over a table of this length, whatever it held, and nothing but these calls came since: for the book's rows after them
+abbrev pub After : {M : Type 0} → Marks M → List (Order M) → Sheet → List (Entry M) → Type 0
+After k os s t = StandsFor s t (ends k (length t) [] os)
+
+-- one call after these: its answer and the buffer are the book's, what is left stands after one call more, and the rows that it met are sound
+pub record MomentOf {M : Type 0} (k : Marks M) (os : List (Order M)) (t : List (Entry M)) (buffer : List PathEl) (o : Order M) (r : Answer) (s' : Sheet) (t' : List (Entry M)) (buffer' : List PathEl) : Type 0 where
+  pub answered : r ≡ reply k (length t) (length buffer) (ends k (length t) [] os) o
+  pub drawn : buffer' ≡ inked k (ends k (length t) [] os) buffer o
+  pub stands : After k (os ++ (o ∷ [])) s' t'
   pub sound : Sound k (ends k (length t) [] os)
+
+-- whatever calls came before
+abbrev pub AtEachMoment : {M : Type 0} → Marks M → Sheet → List (Entry M) → List PathEl → Order M → Answer → Sheet → List (Entry M) → List PathEl → Type 0
+AtEachMoment {M} k s t buffer o r s' t' buffer' = (os : List (Order M)) → After k os s t → MomentOf k os t buffer o r s' t' buffer'

@@ -1,8 +1,11 @@
 //! The calls that alter a sheet.
-ghost use Rattle.std.specs.Prelude.{◌≡◌, ◌+◌, ◌-◌, map, length};
+ghost use Rattle.std.specs.Prelude.{◌≡◌, ◌+◌, ◌-◌, [], map, length};
 ghost use Rattle.sheets.specs.Book.{marks, leaving, put_answer, shift_answer, shift_all_answer, lift_answer};
 ghost use Rattle.sheets.specs.Tables.{counting, held, used, rows, row_of, where_granted, moved_entry, put_table, alter, shift_all_table, lift_table};
 ghost use Rattle.sheets.specs.Tables.{PutByBook, ShiftByBook, ShiftAllByBook, LiftByBook};
+ghost use Rattle.sheets.specs.Runs.{answered, AtEachMoment};
+ghost use Rattle.sheets.specs.declared.order.Order.TheVariants.{Put, Shift, ShiftAll, Lift};
+ghost use Rattle.sheets.specs.declared.order.Answer.TheVariants as said;
 
 use super::fault::SheetFault;
 use super::sheet::{Entry, Sheet, usable};
@@ -23,6 +26,7 @@ impl Sheet {
         ensures record { self.new ≡ where_granted result (counting (held self.old table.old + 1)) self.old }
         ensures table { table.new ≡ where_granted result (put_table self.old table.old mark place.map) table.old }
         ensures book { PutByBook (marks M.Shape) self.old table.old mark place.map result self.new table.new }
+        ensures history { AtEachMoment (marks M.Shape) self.old table.old [] (Put mark place) (answered said.Position result) self.new table.new [] }
     {
         let position = self.count(table);
         if position >= usable(table) {
@@ -50,6 +54,7 @@ impl Sheet {
         ensures answer { result ≡ shift_answer (rows self.now table.old) position position by.map }
         ensures table { table.new ≡ where_granted result (alter position (moved_entry by.map) table.old) table.old }
         ensures book { ShiftByBook self.now table.old position by.map result table.new }
+        ensures history { AtEachMoment (marks M.Shape) self.now table.old [] (Shift position by) (answered said.Position result) self.now table.new [] }
     {
         let used = self.used(table);
         let entry = used.get(position).ok_or(SheetFault::NoMark)?.moved(by);
@@ -66,6 +71,7 @@ impl Sheet {
         ensures answer { result ≡ shift_all_answer (rows self.now table.old) by.map }
         ensures table { table.new ≡ where_granted result (shift_all_table self.now table.old by.map) table.old }
         ensures book { ShiftAllByBook self.now table.old by.map result table.new }
+        ensures history { AtEachMoment (marks M.Shape) self.now table.old [] (ShiftAll by) (answered said.Marks result) self.now table.new [] }
     {
         let count = self.count(table);
         let used = &mut table[..count];
@@ -88,6 +94,7 @@ impl Sheet {
         ensures record { self.new ≡ where_granted result (counting (held self.old table.old - 1)) self.old }
         ensures table { table.new ≡ where_granted result (lift_table self.old table.old position) table.old }
         ensures book { LiftByBook self.old table.old position result self.new table.new }
+        ensures history { AtEachMoment (marks M.Shape) self.old table.old [] (Lift position) (answered said.Marks result) self.new table.new [] }
     {
         let count = self.count(table);
         if position >= count {
@@ -103,9 +110,12 @@ impl Sheet {
 fn first_leaving<M: Shape>(entries: &[Entry<M>], by: Move) -> Option<usize>
     ensures { result ≡ leaving 0 (map row_of entries.now) by.map }
 {
-    entries
-        .iter()
-        .position(|entry| !entry.moved(by).is_on_page())
+    for (position, entry) in entries.iter().enumerate() {
+        if !entry.moved(by).is_on_page() {
+            return Some(position);
+        }
+    }
+    None
 }
 
 // Moves the entries on.

@@ -3,6 +3,9 @@ ghost use Rattle.std.specs.Prelude.{◌≡◌, ◌+◌, ◌≤◌, ◌++◌, map
 ghost use Rattle.plane.specs.Affines.{image_el};
 ghost use Rattle.sheets.specs.Book.{marks, all_drawn, draw_answer, draw_buffer};
 ghost use Rattle.sheets.specs.Tables.{rows, DrawnByBook};
+ghost use Rattle.sheets.specs.Runs.{answered, AtEachMoment};
+ghost use Rattle.sheets.specs.declared.order.Order.TheVariants.{Draw};
+ghost use Rattle.sheets.specs.declared.order.Answer.TheVariants as said;
 ghost use Rattle.sheets.specs.Draws.{entries_drawn, left_of, measured, Fitting};
 
 use super::fault::SheetFault;
@@ -26,6 +29,7 @@ impl Sheet {
         ensures answer { result ≡ draw_answer (length buffer.old) (all_drawn (marks M.Shape) tolerance (rows self.now table.now)) }
         ensures written { buffer.new ≡ draw_buffer buffer.old (all_drawn (marks M.Shape) tolerance (rows self.now table.now)) }
         ensures book { DrawnByBook (marks M.Shape) self.now table.now tolerance buffer.old result buffer.new }
+        ensures history { AtEachMoment (marks M.Shape) self.now table.now buffer.old (Draw tolerance) (answered said.Elements result) self.now table.now buffer.new }
     {
         if !is_tolerance(tolerance) {
             return Err(SheetFault::Tolerance);

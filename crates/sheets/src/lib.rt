@@ -4,6 +4,7 @@
 pub mod calls;
 pub mod draw;
 pub mod fault;
+pub mod laws;
 pub mod order;
 pub mod questions;
 pub mod run;

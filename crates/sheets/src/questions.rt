@@ -1,7 +1,10 @@
 //! The questions that a sheet answers.
-ghost use Rattle.std.specs.Prelude.{◌≡◌, ◌≤◌, map, length};
+ghost use Rattle.std.specs.Prelude.{◌≡◌, ◌≤◌, [], map, length};
 ghost use Rattle.sheets.specs.Book.{marks, at_page_point, total, highest, union_of};
 ghost use Rattle.sheets.specs.Tables.{rows, row_of, AnsweredByBook};
+ghost use Rattle.sheets.specs.Runs.{answered, AtEachMoment};
+ghost use Rattle.sheets.specs.declared.order.Order.TheVariants.{Winding, Top, BoundingBox};
+ghost use Rattle.sheets.specs.declared.order.Answer.TheVariants as said;
 
 use super::fault::SheetFault;
 use super::sheet::{Entry, Sheet};
@@ -16,6 +19,7 @@ impl Sheet {
     pub fn winding<M: Shape>(&self, table: &[Entry<M>], pt: Point) -> Result<i32, SheetFault>
         ensures answer { result ≡ at_page_point pt (total (marks M.Shape) pt (rows self.now table.now)) }
         ensures book { AnsweredByBook self.now table.now (λ bs. at_page_point pt (total (marks M.Shape) pt bs)) result }
+        ensures history { AtEachMoment (marks M.Shape) self.now table.now [] (Winding pt) (answered said.Winding result) self.now table.now [] }
     {
         pt.check_page()?;
         Ok(sum_at(self.used(table), pt))
@@ -27,6 +31,7 @@ impl Sheet {
     pub fn top<M: Shape>(&self, table: &[Entry<M>], pt: Point) -> Result<Option<usize>, SheetFault>
         ensures answer { result ≡ at_page_point pt (highest (marks M.Shape) pt (rows self.now table.now)) }
         ensures book { AnsweredByBook self.now table.now (λ bs. at_page_point pt (highest (marks M.Shape) pt bs)) result }
+        ensures history { AtEachMoment (marks M.Shape) self.now table.now [] (Top pt) (answered said.Top result) self.now table.now [] }
     {
         pt.check_page()?;
         Ok(top_at(self.used(table), pt))
@@ -37,6 +42,7 @@ impl Sheet {
     pub fn bounding_box<M: Shape>(&self, table: &[Entry<M>]) -> Option<Rect>
         ensures answer { result ≡ union_of (marks M.Shape) (rows self.now table.now) }
         ensures book { AnsweredByBook self.now table.now (union_of (marks M.Shape)) result }
+        ensures history { AtEachMoment (marks M.Shape) self.now table.now [] BoundingBox (said.Box result) self.now table.now [] }
     {
         union_of_boxes(self.used(table))
     }
@@ -58,7 +64,13 @@ fn sum_at<M: Shape>(entries: &[Entry<M>], pt: Point) -> i32
 fn top_at<M: Shape>(entries: &[Entry<M>], pt: Point) -> Option<usize>
     ensures { result ≡ highest (marks M.Shape) pt (map row_of entries.now) }
 {
-    entries.iter().rposition(|entry| entry.holds(pt))
+    let mut top = None;
+    for (position, entry) in entries.iter().enumerate() {
+        if entry.holds(pt) {
+            top = Some(position);
+        }
+    }
+    top
 }
 
 // The union of the boxes of the entries, each moved.

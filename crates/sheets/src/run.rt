@@ -2,7 +2,7 @@
 ghost use Rattle.std.specs.Prelude.{◌≡◌, min, length, take, drop};
 ghost use Rattle.sheets.specs.Book.{marks};
 ghost use Rattle.sheets.specs.Tables.{counting};
-ghost use Rattle.sheets.specs.Runs.{sheet_after, table_after, left, FollowedByBook, RunByBook, BookOf};
+ghost use Rattle.sheets.specs.Runs.{sheet_after, table_after, left, FollowedByBook, RunByBook, BookOf, AtEachMoment};
 
 use super::order::{Answer, Order};
 use super::sheet::{Entry, Sheet};
@@ -11,7 +11,9 @@ use plane::shape::Shape;
 
 impl Sheet {
     /// Carries out one order, on the table beside the sheet and with `buffer` to draw into, and gives the answer of the
-    /// call.
+    /// call. Whatever calls came since the sheet was opened, the answer and the buffer are the book's over the rows
+    /// that those calls left, and those rows are sound.
+    #[tactic(auto, using(crate::proofs::Moments::moment, crate::proofs::Sounds::laws))]
     pub fn follow<M: Shape>(
         &mut self,
         table: &mut [Entry<M>],
@@ -21,6 +23,7 @@ impl Sheet {
         ensures record { self.new ≡ sheet_after (marks M.Shape) self.old table.old order }
         ensures table { table.new ≡ table_after (marks M.Shape) self.old table.old order }
         ensures book { FollowedByBook (marks M.Shape) self.old table.old buffer.old order result self.new table.new buffer.new }
+        ensures history { AtEachMoment (marks M.Shape) self.old table.old buffer.old order result self.new table.new buffer.new }
     {
         match order {
             Order::Put(mark, place) => self
@@ -72,10 +75,11 @@ impl Sheet {
 }
 
 /// Opens a sheet over `table`, whatever the table holds, and carries out the orders one after the other, as many as
-/// there are places for answers. It gives the sheet and how many orders those are. Every answer and the buffer are what
-/// the book answers and draws, and the sheet and the table stand for the book's rows afterwards, so that the next call is
-/// answered by the book too. Where a mark gives anything but 0, the page point lies in the sheet's box, `top` names
-/// the uppermost such mark, and a drawing is made of the marks' own paths, moved, and well formed.
+/// there are places for answers. It gives the sheet and how many orders those are. Every answer and the buffer are
+/// what the book answers and draws, and the sheet and the table stand for the book's rows afterwards, so that the next
+/// call is answered by the book too. After each of the orders the rows are sound: where a mark gives anything but 0,
+/// the page point lies in the sheet's box, `top` names the uppermost such mark, and a drawing is made of the marks'
+/// own paths, moved, and well formed.
 pub fn carry_out<M: Shape>(
     table: &mut [Entry<M>],
     buffer: &mut [PathEl],

@@ -1,14 +1,17 @@
--- The search from the back finds the highest.
-use Rattle.std.proofs.Common.{List, map, ap, ◌∙◌, rules}
-use Rattle.sheets.specs.declared.sheet.Entry.{Entry}
-use Rattle.sheets.specs.Book.{marks, highest}
-use Rattle.sheets.specs.Tables.{row_of}
-use Rattle.sheets.proofs.Found.{highest_found}
+-- One entry more is the highest if it holds the point.
+use Rattle.std.proofs.Common.{true, false, sym, ◌∙◌}
+use Rattle.sheets.specs.Book.{marks}
+use Rattle.sheets.proofs.Found.{highest_more}
 use Rattle.sheets.proofs.questions.top_at.Goals as goal
+use Rattle.sheets.proofs.questions.top_at.Goals.{then-holds, else-holds}
 
-pub returns : goal.returns
-returns g c =
+pub loop-position-preserved : goal.loop-position-preserved
+loop-position-preserved g c =
     let k = marks g.M.Shape in
-    let run = c.rposition.ensures.runs in
-    highest_found k c.args.pt _ _ (λ x b f' q. search rules) c.iter.result.rest.now run.0 (rw run.1 at (c.iter.ensures.runs_back run.0 run.0.seen)) c.rposition.result run.2 c.rposition.ensures.bound
-    ∙ ap (λ (es : List (Entry _)). highest k c.args.pt (map row_of es)) c.iter.ensures.rest
+    let es = c.args.entries.now in
+    let l = c.loop-position in
+    let e = c.index-entries-position in
+    elim c.if-holds.branch [
+      | then-holds w ↦ w.top-is ∙ sym (highest_more k c.args.pt es l.position e.result true c.loop-position-test.true e.is (sym w.if-holds.true ∙ c.holds.ensures))
+      | else-holds w ↦ w.top-is ∙ l.invariant ∙ sym (highest_more k c.args.pt es l.position e.result false c.loop-position-test.true e.is (sym w.if-holds.false ∙ c.holds.ensures))
+    ]
