@@ -1,0 +1,5 @@
+//! The lines of an input, one by one.
+#![tactic(auto)]
+
+pub mod failure;
+pub mod reader;

@@ -1,0 +1,3 @@
+mod Printed
+mod WholeNumbers
+pub mod Writing
