@@ -62,6 +62,61 @@ NUMBERS_AS_TEXT = (
     "0." + "0" * 330 + "1",
 )
 
+# Words that stand in no place of an order, or in few.
+SLIPS = "x 1O --1 1e 0x1 1,5 by over outside \u00bd \u22121 1_000 e5 . + putt".split()
+# Bytes that are no text, and control characters that are no blanks.
+STRAY = (b"\xe9", b"\xff", b"\xc3", b"\xed\xa0\x80", b"\xf0\x9f\x8e")
+STRAY += (b"\x07", b"\x08", b"\x1b", b"\x1c", b"\x7f", b"\xc2\x9f")
+LATIN_1 = "\u00e0 2 voix, tr\u00e8s lent".encode("latin-1")
+
+# Page lines that cannot be read.
+NO_PAGES = (
+    "page",
+    "page#",
+    "\tpage   # without a name",
+    "page Too many sizes 8",
+    "page Many 8 30 1",
+    "page Many 8 30 8 30",
+    "page Many 8 30 1 # one size too many",
+    "page second verse",
+    "page Wide 131073",
+    "page Wide -1",
+    "page Wide 8.0",
+    "page Wide 18446744073709551616",
+    "page Wide 1e3 8",
+    "page Wide 131072 1048577",
+    "page Wide 0 1048577",
+    "page Wide 8 x",
+    "page Wide 8 -0",
+    "page Wide 8 30.0",
+    "page Wide 131072 99999999999999999999",
+    "page Bell 8 3\x070",
+    "page Bell \x1b[8 30",
+    "page Bell 8 30\x00",
+    b"page \xe9tude",
+    b"page \xe9tude # \xe9tude",
+    b"page \xff",
+    b"page\xff",
+    b"page Wide 8 30 \xc3",
+    b"  page\tWide 8 \xe2\x82",
+)
+# Lines that are none of them, though they begin like one.
+NO_PAGE_LINES = ("pages 8 30", "Page Wide 8", "pag\u00e9 Wide", b"pag\xe9 Wide", b"\xffpage Wide", "page\x07 Wide")
+# Lines that cannot be read and begin as a question does.
+NO_QUESTIONS = (
+    *("set 1 1", "set x", "set", "measure", "measure 1", "cover", "cover rect", "cover over", "set 1 1 within 9 9"),
+    *(f"{sheet} {question} x y z" for sheet in ("marks", "frames") for question in model.QUESTIONS),
+    *(b"set \xff", b"set\xff", b"measure\xe9", b"cover rect \xe9", b"marks top\xff"),
+    *(b"frames \tset\xe9 0", b"marks set 0 0 \xff"),
+)
+# Lines that cannot be read and may have been meant to alter a sheet.
+MAY_ALTER = (
+    *("marks", "frames", "marks x", "frames putt", "marks put", "marks shift 0", "frames shift_all", "frames lift"),
+    *("Marks top 0 0", "marks Top 0 0", "sett 0 0 outside", "x", "marks bounding box", "measures", "sets", "over"),
+    *(b"\xff", b"marks \xe9", b"marks \xfftop 0 0", b"\xffset 0 0 outside", b"marks\xff top 0 0"),
+    *(b"marks dra\xff", b"se\xff"),
+)
+
 # Shapes, and grid points outside their boxes, where a test without the box says 1.
 BEYOND_THE_BOX = (
     ("triangle", (-4.2, 0.7000000000000002, -2.8000000000000003, 5.299999999999999, -8.4, -13.1), 7.0, 37.5),
@@ -104,18 +159,31 @@ class Room:
     def __init__(self):
         self.dice = Dice(1835)
         self.sitting = model.Sitting()
-        self.lines = []
-        self.written = 0
+        self.lines = []  # each with its end
+        self.answers = []
+        self.slips = 0  # in so many of a hundred orders the pen slips
+        self.ends = (b"\n",)
 
     # ---- lines
 
     def line(self, text):
         """A line as it stands, and the answer to it."""
         data = text if isinstance(text, bytes) else text.encode("utf-8")
-        self.lines.append(data)
-        answer = self.sitting.answer(data)
-        self.written += len(answer) + 1 if answer is not None else 0
-        return answer
+        assert model.LINE_END.search(data) is None
+        end = self.dice.pick(self.ends) if len(self.ends) > 1 else self.ends[0]
+        if data == b"" and end == b"\n" and self.lines and self.lines[-1].endswith(b"\r"):
+            end = b"\r\n"  # CR and LF next to each other would end one line
+        self.lines.append(data + end)
+        answers = self.sitting.take(data)
+        self.answers += answers
+        return answers[-1] if answers else None
+
+    def file(self):
+        """All lines, behind a byte order mark. The last one has no end."""
+        data = model.BYTE_ORDER_MARK + b"".join(self.lines).rstrip(b"\r\n")
+        self.answers += self.sitting.close_file() + self.sitting.tally()
+        assert model.answers_of([("-", data)])[0] == self.answers
+        return data
 
     def lines_of(self, text):
         for line in text.strip("\n").split("\n"):
@@ -125,11 +193,32 @@ class Room:
         """An order of words and numbers; now and then with other blanks than one, or a comment behind it."""
         dice = self.dice
         words = [word if isinstance(word, str) else self.number(word) for word in words]
+        if self.slips > 0 and dice.chance(self.slips):
+            return self.line(self.slip(words))
         if dice.chance(96):
             return self.line(" ".join(words))
-        between = dice.pick(("  ", " ", "\t", " \t ", "\u00a0", "\u3000"))
+        between = dice.pick(("  ", " ", "\t", " \t ", "\u00a0", "\u3000", "\x0b", "\x0c ", "\u0085"))
         text = dice.pick(("", " ", "\t", "  ")) + between.join(words)
-        return self.line(text + dice.pick(("", " ", "\t", "\r", "  # seen", "# again", " # \u00e0 2 voix")))
+        comments = ("", " ", "\t", "\x0c", "  # seen", "# again", " # \u00e0 2 voix")
+        behind = b"# " + LATIN_1 if dice.chance(25) else dice.pick(comments).encode("utf-8")
+        return self.line(text.encode("utf-8") + behind)
+
+    def slip(self, words):
+        """An order of these words in which the pen slips; now and then it is an order still."""
+        dice = self.dice
+        words = [word.encode("utf-8") for word in words]
+        at = dice.below(len(words))
+        way = dice.below(6)
+        if way == 0:
+            del words[at]
+        elif way == 1:
+            words.insert(at + 1, dice.pick(SLIPS).encode("utf-8"))
+        elif way == 2:
+            words[at] = dice.pick(SLIPS).encode("utf-8")
+        else:
+            cut = dice.between(0, len(words[at]))
+            words[at] = words[at][:cut] + dice.pick(STRAY) + words[at][cut:]
+        return b" ".join(words)
 
     def number(self, x):
         if isinstance(x, int):
@@ -155,13 +244,14 @@ class Room:
     def page(self, name, *sizes, why=None):
         """A page line. Each page has dice of its own, so that a change of one page leaves the others alone."""
         self.dice = Dice(int.from_bytes(f"1835 {name}".encode(), "big") % (2**61 - 1))
+        self.slips, self.ends = 0, (b"\n",)
         self.line("")
         if why is not None:
             self.line(f"# {why}")
         self.line(" ".join(["page", name, *map(str, sizes)]))
 
     def rows(self, sheet="marks"):
-        return self.sitting.sheets[sheet].rows
+        return self.sitting.page.sheets[sheet].rows
 
     # ---- numbers
 
@@ -374,16 +464,21 @@ class Room:
             return self.dice.pick((count, count, count + 1, count + 7, 65535, 65536, WORD_END - 1))
         return self.dice.below(count)
 
-    def set_point(self, right=65, bad=4):
-        """A set point with its key, which is right in so many of a hundred cases at least."""
-        x, y = self.point("marks", bad)
+    def set_point(self, sheet="marks", right=65, bad=4):
+        """A set point with its key, which is right in so many of a hundred cases at least, or names no mark."""
+        x, y = self.point(sheet, bad)
         try:
-            top = self.sitting.sheets["marks"].top(x, y)
+            top = self.sitting.page.sheets[sheet].top(x, y)
         except model.Refusal:
             top = None
         if not self.dice.chance(right):
-            top = self.dice.pick((None, self.position("marks", 10), self.position("marks", 10)))
-        return self.order("set", x, y, *(("outside",) if top is None else ("within", top)))
+            top = self.dice.pick((None, self.position(sheet, 10), self.position(sheet, 10)))
+        return self.set_line(sheet, x, y, top)
+
+    def set_line(self, sheet, x, y, key):
+        spelled_out = sheet == "frames" or self.dice.chance(25)
+        words = [sheet, "set"] if spelled_out else ["set"]
+        return self.order(*words, x, y, *(("outside",) if key is None else ("within", key)))
 
     def radii(self, shape):
         """The radii that a tolerance is compared with."""
@@ -420,7 +515,7 @@ class Room:
         for _ in range(12):
             tolerance = self.tolerance(sheet)
             try:
-                if len(self.sitting.sheets[sheet].draw(tolerance)) <= most:
+                if len(self.sitting.page.sheets[sheet].draw(tolerance)) <= most:
                     break
             except model.Refusal:
                 break
@@ -506,7 +601,7 @@ class Room:
         if order in ("winding", "top"):
             return self.order(sheet, order, *self.point(sheet, bad))
         if order == "set":
-            return self.set_point(bad=bad)
+            return self.set_point(sheet, bad=bad)
         if order == "bounding_box":
             return self.order(sheet, "bounding_box")
         if order == "draw":
@@ -556,9 +651,11 @@ def before_the_first_page(room):
     room.lines_of(
         """
 # A sitting in the examination room: pages of orders, made at random from a fixed seed (tests/sittings/make.py).
-# The first orders stand before any page line.
+# The first orders stand before any page line, and slips of the pen before them.
 
 marks bounding_box 1
+marks putt rect 0 0 2 1
+set 0 0
    # an order behind a comment is none: marks bounding_box
 marks bounding_box
 \tmarks put rect 0 0 2 1
@@ -568,9 +665,12 @@ frames top 1 0.5
 frames put rect 0 0 2 1 by 1 0 0 -1 0 0
 frames winding 1 -0.5
 set 1 0.5 outside
+frames set 1 -0.5 within 0
+frames set 1 0.5 within 1
+marks set 1 0.5 within 1
 """
     )
-    room.some_orders(40, USUAL, GRID_STYLES)
+    room.some_orders(30, USUAL, GRID_STYLES)
 
 
 def specimens(room):
@@ -711,7 +811,7 @@ def refusals_at_random(room):
     orders = {"put": 26, "shift": 14, "shift_all": 10, "lift": 10, "winding": 9, "top": 9, "set": 9, "draw": 20}
     orders["cover"] = 4
     styles = {"grid": 10, "endless": 6, "huge": 1, "decimals": 3}
-    for entries, places, count in ((3, 5, 110), (4, 20, 130), (8, 100, 160)):
+    for entries, places, count in ((3, 5, 90), (4, 20, 110), (8, 100, 130)):
         room.page(f"Refusals-{entries}-{places}", entries, places)
         room.order("frames", "bounding_box")
         room.some_orders(count, orders, styles, bad=35, frames=50)
@@ -739,7 +839,8 @@ def refusals_at_random(room):
             room.put(sheet)
         for bad in (OFF_GRID, OFF_PAGE):
             for key in (["outside"], ["within", 0], ["within", 7]):
-                room.order("set", room.near(), room.dice.pick(bad), *key)
+                for words in (["set"], ["marks", "set"], ["frames", "set"]):
+                    room.order(*words, room.near(), room.dice.pick(bad), *key)
     # moves that are none
     room.page("No-moves", 2, 30)
     for sheet in ("marks", "frames"):
@@ -902,7 +1003,6 @@ def unreadable_lines(room):
     """Every reason for which a line can't be read, at every place where it arises."""
     room.page("Unreadable", 8, 30, why="slips of the pen")
     orders = (
-        "page Slips 8 30",
         "marks put rect 0 0 2 1",
         "marks put rect 0 0 2 1 by 1 0 0 1 0 0",
         "marks put circle 0 0 1",
@@ -927,6 +1027,9 @@ def unreadable_lines(room):
         "frames draw 0.5",
         "set 1 0.5 within 0",
         "set 1 0.5 outside",
+        "marks set 1 0.5 within 0",
+        "frames set 1 0.5 within 0",
+        "frames set 1 0.5 outside",
         "measure rect 0 0 2 1",
         "measure circle 0 0 1",
         "measure triangle 0 0 1 0 0 1",
@@ -937,29 +1040,22 @@ def unreadable_lines(room):
         "cover ellipse 0 0 2 1 0.5 over rect 0 0 2 1 by 1 0 0 1 1 1 draw 10",
         "cover circle 0 0 1 by 1 0 0 1 1 1 over ellipse 0 0 2 1 0.5 by 0 1 1 0 0 0 winding 1 1",
     )
-    slips = "x 1O --1 1e 0x1 1,5 by over outside \u00bd \u22121 1_000 e5 . +".split()
     for text in orders:
         words = text.split()
         # each beginning of the order
-        if words[0] != "page":
-            for end in range(1, len(words)):
-                room.line(" ".join(words[:end]))
-        else:
-            room.line("page")
+        for end in range(1, len(words)):
+            room.line(" ".join(words[:end]))
         # words behind its end
         behind = room.dice.pick(("1", "5 6", "x", "by 1 0 0 1 0 0", "within 0", "over"))
-        room.line(" ".join([*words, "1" if words[0] == "page" else behind]))
+        room.line(" ".join([*words, behind]))
         # another word in a place, at some of them
         for at in room.dice.shuffled(range(len(words)))[:4]:
-            if words[0] == "page" and at == 1:
-                continue
             wrong = list(words)
-            wrong[at] = room.dice.pick(slips)
+            wrong[at] = room.dice.pick(SLIPS)
             room.line(" ".join(wrong))
         # a word left out in the middle
-        if words[0] != "page":
-            at = room.dice.below(len(words))
-            room.line(" ".join(words[:at] + words[at + 1 :]))
+        at = room.dice.below(len(words))
+        room.line(" ".join(words[:at] + words[at + 1 :]))
     room.lines_of(
         """
 rect 0 0 1 1
@@ -1024,20 +1120,6 @@ set 1
 set
 set x 1 within 0
 set 1 x within 0
-page
-page Too many sizes 8
-page Many 8 30 1
-page Wide 131073
-page Wide 131072 1048577
-page Wide -1
-page Wide 8.0
-page Wide 8 x
-page Wide 0 1048577
-page Wide 8 -0
-page Wide 8 30.0
-page Wide 131072 99999999999999999999
-page Wide 18446744073709551616
-page Wide 1e3 8
 cover
 cover rect 0 0 1 1
 cover rect 0 0 1 1 by 1 0 0 1 0 0
@@ -1066,7 +1148,15 @@ measure circle 0 0 1 by 1 0 0 1 0 0
 marks put circle 0 0 \u00e9
 \u00e9tude
 marks \u00e9tude
-# a second page, since a page line was read above
+marks inside 0 0
+frames set
+frames set 1 1
+frames set 1 1 inside
+marks set 1 1 within
+marks set 1 1 within 0 0
+marks set 1 1 within -1
+marks set 1 x within 0
+frames set 1 1 outside 0
 """
     )
     for data in (
@@ -1074,19 +1164,111 @@ marks \u00e9tude
         b"\xff",
         b"marks bounding_box \xff",
         b"set 1 1 within 0\xc3",
-        b"page \xe9tude",
+        b"marks \xe9tude",
         b"\xed\xa0\x80",
+        b"marks bounding_box \xff # \xff",
+        b"# \xff",
+        b"marks bounding_box # \xff",
+        b"marks bounding_box#\xff#",
+        b" \t#" + LATIN_1,
+        b"marks bounding_box\xc3#\xa9",
     ):
         room.line(data)
-    room.line("marks bounding_box")
-    room.line("page \u00e9tude")
+    for text in ("marks\x07 top 0 0", "marks \x1btop 0 0", "marks put\x00 rect", "set 0 0\x7f outside", "\u0080\u009f"):
+        room.line(text)
+    room.line("measure circle 0 0 1\x1f")
+    room.line("marks lift \x1d0")
+    room.line("measure ellipse 0 0 1 1 0 0.1 5\x01")
+    room.line("\ufeffmarks bounding_box")
+    room.line("marks bounding_box\ufeff")
     room.line("marks\u00a0put\u2003rect 0 0 1 1")
     room.line("\u3000set 0 0 within 0\u2029")
-    room.line("page Sizes 131072 1048576")
-    room.line("page Sizes 0 0#")
-    room.line("page#")
-    room.line("#page x y z")
+    room.line("marks\tbounding_box\t")
+    room.line("marks\u0085bounding_box\x0b")
+    room.line("measure\t circle\x0b0\x0c0\u00851")
     room.line("marks draw 1#00")
+    for data in NO_PAGE_LINES:
+        room.line(data)
+    room.line("marks bounding_box")
+    for line in ("\u00e9tude", "Sizes 131072 1048576", "Sizes 0 0#", "#", "set", "page"):
+        room.line(f"page {line}")
+        room.line("marks bounding_box")
+    for name in ("\x07bell", "a\x1b[1mb", "\u009f", "x\x7fy\x00z", "\ufeff", "a\x1cb", "\\t", "page"):
+        room.line(f"page {name} 1 5")
+        room.line("set 0 0 outside")
+
+
+EVERY_ORDER = dict.fromkeys(model.ALTERING + model.QUESTIONS, 2) | {"set": 5, "measure": 3, "cover": 3}
+
+
+def unreadable_pages(room):
+    """Page lines that cannot be read, orders of all kinds after them, and now and then a page that is marked."""
+    room.page("Verse-0", 8, 30, why="page lines that cannot be read")
+    room.some_orders(8, EVERY_ORDER, GRID_STYLES)
+    for number, line in enumerate(NO_PAGES * 2):
+        room.line("")
+        room.line(line)
+        room.slips = room.dice.pick((0, 0, 15))
+        room.some_orders(room.dice.between(0, 8), EVERY_ORDER, GRID_STYLES, frames=40)
+        if room.dice.chance(50):
+            room.page(f"Verse-{number + 1}", 8, 30)
+            room.some_orders(room.dice.between(1, 7), EVERY_ORDER, GRID_STYLES, frames=40)
+
+
+def slips(room):
+    """Pages on which the pen slips now and then: set points after that are doubtful, or are not."""
+    orders = {"put": 6, "shift": 3, "shift_all": 1, "lift": 1, "winding": 2, "top": 2, "set": 12, "draw": 1}
+    room.page("Slips", 8, 60, why="slips of the pen at random")
+    for number, (count, often) in enumerate(((60, 15), (60, 5), *([(9, 14)] * 16))):
+        room.page(f"Slips-{number}", 8, 60)
+        room.slips = often
+        room.some_orders(count, orders, GRID_STYLES, frames=40)
+    room.page("Questions", 4, 20, why="questions that cannot be read alter nothing")
+    room.put("marks")
+    for line in NO_QUESTIONS:
+        room.line(line)
+        room.set_point(room.dice.pick(("marks", "frames")))
+    room.line("# whatever else cannot be read may have been meant to")
+    for number, line in enumerate(MAY_ALTER):
+        room.page(f"Altering-{number}", 4, 20)
+        room.put("marks")
+        if number % 2 == 0:
+            room.set_point("marks")
+        room.line(line)
+        room.set_point("marks")
+        room.set_point("frames")
+
+
+def keys_without_marks(room):
+    """Keys that name no mark, at points of all kinds: the point is refused first."""
+    room.page("Keys", 4, 20, why="keys that name no mark")
+    for count in range(4):
+        for sheet in ("marks", "frames"):
+            for key in (max(count - 1, 0), count, count + 1, 65535, 65536, WORD_END - 1):
+                x, y = room.point(sheet, 0)
+                room.set_line(sheet, *(room.spoiled(x, y) if room.dice.chance(25) else (x, y)), key)
+            room.put(sheet)
+
+
+def ends_of_lines(room):
+    """LF, CR LF and CR, with empty lines and comments between."""
+    room.page("Ends-of-lines", 8, 60, why="all ends of lines")
+    room.ends = (b"\n", b"\r\n", b"\r")
+    room.slips = 6
+    for _ in range(130):
+        way = room.dice.below(12)
+        if way == 0:
+            room.line("")
+        elif way == 1:
+            room.line(room.dice.pick((b"#", b" # ", b"# " + LATIN_1, b"\t")))
+        else:
+            room.some_order(USUAL, GRID_STYLES)
+    room.line("")
+    room.ends = (b"\r",)
+    for _ in range(4):
+        room.line("")
+        room.some_order(USUAL, GRID_STYLES)
+    room.ends = (b"\n",)
 
 
 def measures(room):
@@ -1125,6 +1307,13 @@ def numbers(room):
     room.page("Numbers", 0, 0, why="numbers as they are written")
     for text in NUMBERS_AS_TEXT:
         room.line(f"measure rect 0 0 {text} 1")
+    for x in (1e-5, 1e16):
+        for near in (math.nextafter(x, 0.0), x, math.nextafter(x, math.inf), x / 2, x / 10, x * 10, x * 1.5, x / 1.5):
+            room.line(f"measure circle {near!r} {-near!r} 0")
+    room.line("# numbers half way between two decimals that both read back")
+    for low, high, places in ((65536, 131072, 17), (524288, 655360, 16), (2097152, 3276800, 15)):
+        for _ in range(8):
+            room.line(f"measure rect 0 0 {(2 * room.dice.between(low // 2, high // 2 - 1) + 1) / 2.0**places!r} 1")
     for _ in range(40):
         word = room.dice.word()
         x = struct.unpack(">d", struct.pack(">Q", word))[0]
@@ -1133,9 +1322,9 @@ def numbers(room):
 
 
 def covers(room):
-    room.page("Covers", 0, 5, why="an upper shape over a lower one, on no sheet")
+    room.page("Covers", 0, 14, why="an upper shape over a lower one, on no sheet")
     styles = {"grid": 20, "decimals": 5, "fine": 3, "degenerate": 2, "page": 1, "endless": 1}
-    for _ in range(260):
+    for _ in range(190):
         moves = [None if room.dice.chance(25) else room.some_move(0) for _ in range(2)]
         room.cover(room.shape(room.dice.weighted(styles)), room.shape(room.dice.weighted(styles)), *moves)
     for _ in range(90):
@@ -1155,6 +1344,12 @@ def covers(room):
     for _ in range(40):
         shapes = [room.shape(room.dice.pick(("endless", "huge", "tiny", "zeros"))) for _ in range(2)]
         room.cover(*shapes, "edge", "edge", "bounding_box")
+    for places, count in ((0, 8), (9, 20), (10, 20), (11, 20), (12, 20), (60, 20)):
+        room.page(f"Covers-{places}", 0, places)
+        for _ in range(count):
+            kinds = ("rect", "circle", "triangle", "rect", "circle", "triangle", "rounded", "ellipse")
+            room.cover(room.shape("grid", kinds), room.shape("grid", kinds), None, room.some_move(4), "draw")
+    room.page("Covers-too-fine", 0, 5)
     corners = [f"rounded 0 0 8 8 {radii}" for radii in ("2 0 0 0", "0 2 0 0", "0 0 2 0", "0 0 0 2")]
     for upper in (*corners, "circle 0 0 2"):
         for lower in ("rounded 0 0 8 8 0 0 0 2", "circle 0 0 3", "ellipse 0 0 3 2 0", "rect 0 0 1 1", "rect nan 0 1 1"):
@@ -1168,7 +1363,7 @@ def edge_of_the_page(room):
     moves = {"edge": 6, "grain": 8, "small": 3, "offset": 3, "page": 2}
     styles = {"grid": 10, "page": 2, "field": 2}
     room.page("Edge", 40, 300, why="at the edge of the page")
-    room.some_orders(420, orders, styles, moves=moves, bad=4)
+    room.some_orders(340, orders, styles, moves=moves, bad=4)
     room.page("Corners", 40, 300)
     room.lines_of(
         """
@@ -1211,7 +1406,7 @@ def long_histories(room):
     room.put("frames")
     room.put("frames")
     orders = {"shift": 30, "shift_all": 12, "winding": 14, "top": 10, "set": 14, "bounding_box": 3, "draw": 1}
-    room.some_orders(480, orders, GRID_STYLES, moves={"small": 10, "offset": 4}, bad=3, drawn=30)
+    room.some_orders(400, orders, GRID_STYLES, moves={"small": 10, "offset": 4}, bad=3, drawn=30)
 
 
 def beyond_the_box(room):
@@ -1284,7 +1479,7 @@ def put_and_lift(room):
     """Positions that come one down, and entries that serve again."""
     room.page("Lifts", 8, 30)
     orders = {"put": 30, "lift": 26, "top": 10, "winding": 8, "set": 10, "shift": 6, "bounding_box": 2, "draw": 2}
-    room.some_orders(360, orders, {"grid": 10, "decimals": 2, "endless": 1}, drawn=30)
+    room.some_orders(260, orders, {"grid": 10, "decimals": 2, "endless": 1}, drawn=30)
 
 
 def frames_alone(room):
@@ -1292,13 +1487,13 @@ def frames_alone(room):
     orders = dict(USUAL)
     orders["put"] = 26
     styles = {"grid": 12, "degenerate": 2, "decimals": 3, "page": 1, "endless": 1}
-    room.some_orders(520, orders, styles, frames=88, drawn=120)
+    room.some_orders(400, orders, styles, frames=88, drawn=120)
     room.order("frames", "draw", 0.5)
 
 
 def a_table_of_many_entries(room):
     room.page("Many-entries", 70000, 4000, why="no sheet uses more than 65536 of them")
-    room.some_orders(160, USUAL, GRID_STYLES)
+    room.some_orders(110, USUAL, GRID_STYLES)
     room.page("All-entries", 131072, 1048576)
     room.some_orders(40, USUAL, GRID_STYLES)
 
@@ -1308,7 +1503,7 @@ def odd_shapes(room):
     room.page("Odd-shapes", why="shapes of every kind of number")
     orders = {"put": 26, "shift": 8, "shift_all": 2, "lift": 22, "winding": 14, "top": 12, "set": 14, "draw": 6}
     orders["bounding_box"] = 3
-    room.some_orders(520, orders, ALL_STYLES, drawn=30)
+    room.some_orders(430, orders, ALL_STYLES, drawn=30)
 
 
 def long_page(room, name, count, most, seed_marks):
@@ -1325,11 +1520,11 @@ def long_page(room, name, count, most, seed_marks):
 
 
 def a_long_history(room):
-    """One page of thousands of orders, over tables that fill up and a buffer that is often too small."""
-    room.page("Windsor", 24, 90, why="one page of thousands of orders")
+    """One page of more than a thousand orders, over tables that fill up and a buffer that is often too small."""
+    room.page("Windsor", 24, 90, why="one page of more than a thousand orders")
     orders = dict(USUAL, measure=2, cover=2)
     orders["draw"] = 2
-    room.some_orders(2600, orders, ALL_STYLES, bad=8, drawn=30)
+    room.some_orders(1600, orders, ALL_STYLES, bad=8, drawn=30)
 
 
 def main(path):
@@ -1340,6 +1535,10 @@ def main(path):
     refusals_in_order(room)
     refusals_at_random(room)
     unreadable_lines(room)
+    unreadable_pages(room)
+    slips(room)
+    keys_without_marks(room)
+    ends_of_lines(room)
     numbers(room)
     measures(room)
     covers(room)
@@ -1357,12 +1556,14 @@ def main(path):
     room.line("# one drawing of the whole page, at a coarse tolerance")
     room.order("marks", "draw", 10.0)
     room.order("marks", "shift_all", -1, 0, 0, -1, 0, 0)
-    long_page(room, "Old-Hundredth", 440, 60, 30)
+    long_page(room, "Old-Hundredth", 340, 60, 30)
     a_long_history(room)
-    room.line("# the sitting ends here")
+    room.line("# the sitting ends here, with a line that nothing ends")
+    room.line("marks bounding_box")
+    data = room.file()
     with open(path, "wb") as file:
-        file.write(b"\n".join(room.lines) + b"\n")
-    print(room.sitting.tally())
+        file.write(data)
+    print("\n".join(room.sitting.tally()))
 
 
 if __name__ == "__main__":

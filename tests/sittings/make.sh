@@ -5,5 +5,6 @@ here=$(cd "$(dirname "$0")" && pwd)
 replay=$(cd "$here/../../crates" && pwd)/replay
 mkdir -p "$replay"
 python3.11 "$here/make.py" "$replay/stdin" > /dev/null
-python3.11 "$here/model.py" < "$replay/stdin" > "$replay/stdout"
-python3.11 "$here/tally.py" "$replay/stdout"
+# the model says 1, since there are lines that cannot be read, and tells them
+python3.11 "$here/model.py" < "$replay/stdin" > "$replay/stdout" 2> /dev/null || test $? = 1
+python3.11 "$here/tally.py" "$replay/stdin" "$replay/stdout"

@@ -1,7 +1,11 @@
 #!/usr/bin/env python3.11
 """The examination room told a second time: a plain model that answers a sitting.
 
-    model.py < SITTING > ANSWERS
+    model.py [--strict] [FILE..] > ANSWERS
+
+It reads the files in turn, `-` being standard input, or standard input alone if none is named. Each line that cannot be
+read is told on standard error too, as FILE:LINE: REASON, and with --strict the first of them ends the sitting. The exit
+status is 0 if every line was read, and else 1.
 
 It keeps the book and no table: a row is a mark and all moves that it was ever given, oldest first. A point is
 taken back through them one by one. Nothing here was made from the port's code: it was written from the rules, and
@@ -15,7 +19,7 @@ winding is worked out twice, in floats and in whole numbers, and the two have to
 import math
 import re
 import sys
-from fractions import Fraction
+from pathlib import Path
 
 NAN = math.nan
 INFINITY = math.inf
@@ -32,7 +36,6 @@ FIELD = 32768.0
 USABLE = 65536  # entries of a table that a sheet uses at most
 MOST_STRETCHED = 2.0**36
 MOST_STEPS = 64
-MOST_COUNTED = 2**64 - 1
 
 
 # ---- floats as the standard has them
@@ -915,6 +918,9 @@ WORD = re.compile(f"[^{BLANKS}]+")
 TRIM = re.compile(f"^[{BLANKS}]+|[{BLANKS}]+\\Z")
 NUMBER = re.compile(r"[+-]?(([0-9]+\.?[0-9]*|\.[0-9]+)(e[+-]?[0-9]+)?|inf|infinity|nan)", re.ASCII | re.IGNORECASE)
 DIGITS = re.compile(r"\+?[0-9]+", re.ASCII)
+CONTROL = re.compile("[\x00-\x1f\x7f-\x9f]")
+LINE_END = re.compile(rb"\r\n|\r|\n")
+BYTE_ORDER_MARK = b"\xef\xbb\xbf"
 
 SHAPES = {
     "rect": (Rect, 4),
@@ -923,7 +929,8 @@ SHAPES = {
     "rounded": (RoundedRect, 8),
     "ellipse": (Ellipse, 5),
 }
-SHEET_ORDERS = ("put", "shift", "shift_all", "lift", "winding", "top", "bounding_box", "draw")
+ALTERING = ("put", "shift", "shift_all", "lift")
+QUESTIONS = ("winding", "top", "bounding_box", "draw", "set")  # asked of a sheet, and altering none
 ENTRIES = (65536, 131072)  # as a rule, and at most
 PLACES = (262144, 1048576)
 
@@ -960,11 +967,15 @@ def allowance(word):
     return answer
 
 
+def words_of(text):
+    return WORD.findall(text)
+
+
 class Words:
     """The words of an order, read from left to right."""
 
-    def __init__(self, text):
-        self.words = WORD.findall(text)
+    def __init__(self, words):
+        self.words = words
         self.at = 0
 
     def peek(self):
@@ -982,15 +993,16 @@ class Words:
 
     def run(self, readers, follow=()):
         """A run of numbers, one reader a number. Behind it nothing may stand but the words that may follow."""
+        wanted = "1 number wanted" if len(readers) == 1 else f"{len(readers)} numbers wanted"
         numbers = []
         for reader in readers:
             word = self.peek()
             if word is None:
-                raise Unreadable(f"{len(readers)} numbers wanted, {len(numbers)} there")
+                raise Unreadable(f"{wanted}, {len(numbers)} there")
             numbers.append(reader(word))
             self.at += 1
         if follow is not None and self.left() > 0 and self.peek() not in follow:
-            raise Unreadable(f"{len(readers)} numbers wanted, {len(readers) + self.left()} there")
+            raise Unreadable(f"{wanted}, {len(readers) + self.left()} there")
         return numbers
 
 
@@ -1026,9 +1038,9 @@ def read_point(words, follow=()):
 
 
 def read_page(words):
-    if not 1 <= words.left():
+    if words.left() == 0:
         raise Unreadable("a page has a name, and then at most two sizes")
-    words.next()
+    name = words.next()
     sizes = []
     for usual, most in (ENTRIES, PLACES):
         word = words.peek()
@@ -1039,12 +1051,17 @@ def read_page(words):
         sizes.append(size)
     if words.left() > 0:
         raise Unreadable("a page has a name, and then at most two sizes")
-    return lambda sitting: sitting.turn_to(*sizes)
+
+    def turn(sitting):
+        sitting.page = Page(name, *sizes)
+        return "0 marks"
+
+    return turn
 
 
 def read_sheet_order(words, sheet):
     kind = words.next()
-    if kind not in SHEET_ORDERS:
+    if kind not in ALTERING + QUESTIONS:
         raise Unreadable(f"'{kind}' is no order")
     if kind == "put":
         shapes = SHAPES if sheet == "marks" else {"rect": SHAPES["rect"]}
@@ -1052,7 +1069,7 @@ def read_sheet_order(words, sheet):
 
         def put(sitting):
             check_move(move)
-            return f"position {sitting.sheets[sheet].put(mark, move)}"
+            return f"position {sitting.page.sheets[sheet].put(mark, move)}"
 
         return put
     if kind == "shift":
@@ -1060,7 +1077,7 @@ def read_sheet_order(words, sheet):
 
         def shift(sitting):
             check_move(tuple(numbers))
-            return f"position {sitting.sheets[sheet].shift(at, tuple(numbers))}"
+            return f"position {sitting.page.sheets[sheet].shift(at, tuple(numbers))}"
 
         return shift
     if kind == "shift_all":
@@ -1068,26 +1085,28 @@ def read_sheet_order(words, sheet):
 
         def shift_all(sitting):
             check_move(move)
-            return f"{sitting.sheets[sheet].shift_all(move)} marks"
+            return f"{sitting.page.sheets[sheet].shift_all(move)} marks"
 
         return shift_all
     if kind == "lift":
         (at,) = words.run([position])
-        return lambda sitting: f"{sitting.sheets[sheet].lift(at)} marks"
+        return lambda sitting: f"{sitting.page.sheets[sheet].lift(at)} marks"
     if kind == "winding":
         x, y = read_point(words)
-        return lambda sitting: f"winding {sitting.sheets[sheet].winding(x, y)}"
+        return lambda sitting: f"winding {sitting.page.sheets[sheet].winding(x, y)}"
     if kind == "top":
         x, y = read_point(words)
-        return lambda sitting: f"top {or_none(sitting.sheets[sheet].top(x, y))}"
+        return lambda sitting: f"top {or_none(sitting.page.sheets[sheet].top(x, y))}"
+    if kind == "set":
+        return read_set(words, sheet)
     if kind == "bounding_box":
         words.run([])
-        return lambda sitting: f"box {box_text(sitting.sheets[sheet].bounding_box())}"
+        return lambda sitting: f"box {box_text(sitting.page.sheets[sheet].bounding_box())}"
     (tolerance,) = words.run([number])
-    return lambda sitting: drawing_text(sitting.sheets[sheet].draw(tolerance))
+    return lambda sitting: drawing_text(sitting.page.sheets[sheet].draw(tolerance))
 
 
-def read_set(words):
+def read_set(words, sheet):
     x, y = read_point(words, None)
     bad_key = Unreadable("a key is 'within POSITION' or 'outside'")
     word = words.next()
@@ -1100,13 +1119,7 @@ def read_set(words):
     if words.left() > 0:
         raise bad_key
 
-    def set_point(sitting):
-        sitting.set_points += 1
-        right = sitting.sheets["marks"].top(x, y) == key
-        sitting.right += right
-        return "right" if right else "wrong"
-
-    return set_point
+    return lambda sitting: "right" if sitting.page.set_point(sheet, x, y, key) else "wrong"
 
 
 def read_measure(words):
@@ -1147,21 +1160,24 @@ def read_cover(words):
             return f"winding {covering.winding(x, y)}"
         if question == "bounding_box":
             return f"box {box_text(covering.bounding_box())}"
-        return drawing_text(covering.path(tolerance))
+        drawing = covering.path(tolerance)
+        if len(drawing) > sitting.page.places:
+            raise Refusal(8)
+        return drawing_text(drawing)
 
     return cover
 
 
 def read_order(text):
     """What answers the order, asked of a sitting."""
-    words = Words(text)
+    words = Words(words_of(text))
     kind = words.next()
     if kind == "page":
         return read_page(words)
     if kind in ("marks", "frames"):
         return read_sheet_order(words, kind)
     if kind == "set":
-        return read_set(words)
+        return read_set(words, "marks")
     if kind == "measure":
         return read_measure(words)
     if kind == "cover":
@@ -1173,36 +1189,38 @@ def read_order(text):
 
 
 def shortest(x):
-    """The fewest digits of x > 0 that read back as x, and where the point stands among them. Of two that are equally near,
-    the greater, as Rust writes it: `repr` gives the even one."""
+    """The fewest digits of x > 0 that read back as x, and where the point stands among them.
+
+    Of two that are equally near, the one whose last digit is even, which is what `repr` gives.
+    """
     mantissa, _, exponent = repr(x).partition("e")
     before, _, after = mantissa.partition(".")
-    if after == "0":
-        after = ""
-    digits = before + after
     point = len(before) + int(exponent or 0)
-    scaled = Fraction(x) * Fraction(10) ** (len(digits) - point)
-    above = str(math.ceil(scaled))
-    if scaled - math.floor(scaled) == Fraction(1, 2) and len(above) == len(digits) and float(f"{above}e{point - len(digits)}") == x:
-        digits = above
-    return digits, point
+    digits = (before + after).lstrip("0")
+    point -= len(before + after) - len(digits)  # the digits start with one that counts
+    return digits.rstrip("0"), point
 
 
 def number_text(x):
-    """The fewest digits that read back as x, without an exponent."""
+    """The fewest digits that read back as x, with an exponent if its size is below 10^-5, or 10^16 and more."""
     if x != x:
         return "nan"
-    if math.isinf(x):
-        return "inf" if x > 0 else "-inf"
-    digits, point = shortest(abs(x))
-    if point <= 0:
+    minus, size = "-" if math.copysign(1.0, x) < 0 else "", abs(x)
+    if size == INFINITY:
+        return minus + "inf"
+    if size == 0:
+        return minus + "0"
+    digits, point = shortest(size)
+    if not 1e-5 <= size < 1e16:
+        text = ".".join(filter(None, (digits[0], digits[1:]))) + f"e{point - 1}"
+    elif point <= 0:
         text = "0." + "0" * -point + digits
     elif point >= len(digits):
         text = digits + "0" * (point - len(digits))
     else:
         text = digits[:point] + "." + digits[point:]
-    assert float(text) == abs(x)
-    return "-" + text if math.copysign(1.0, x) < 0 else text
+    assert float(text) == size
+    return minus + text
 
 
 def or_none(answer):
@@ -1220,81 +1238,187 @@ def drawing_text(drawing):
     return "\n".join(lines)
 
 
-class Sitting:
-    """A page with its two sheets, and the counts over all pages."""
+def escaped(text):
+    """The text with its control characters written as escapes."""
+    return CONTROL.sub(lambda found: "\\t" if found[0] == "\t" else f"\\u{{{ord(found[0]):x}}}", text)
 
-    def __init__(self):
-        self.pages = 0
-        self.orders = 0
-        self.refused = 0
-        self.unreadable = 0
-        self.set_points = 0
-        self.right = 0
-        self.lines = 0
-        self.lay_out(ENTRIES[0], PLACES[0])
 
-    def lay_out(self, entries, places):
+# ---- pages
+
+
+class Page:
+    """A page with its two sheets, and what its sum tells.
+
+    If no page line begins it, it has no name before its first order. `unread` is the number of the page line that
+    began it, if that cannot be read: then nothing on the page is marked.
+    """
+
+    def __init__(self, name, entries=ENTRIES[0], places=PLACES[0], unread=None):
+        self.name = name
+        self.places = places
         self.sheets = {"marks": Book(entries, places), "frames": Book(entries, places)}
+        self.unread = unread
+        self.doubt = False  # whether an unreadable line may have been meant to alter a sheet
+        self.set_points = self.right = self.refused = self.unreadable = self.not_marked = self.doubtful = 0
 
-    def turn_to(self, entries, places):
+    def set_point(self, sheet, x, y, key):
+        """Whether the key says what is uppermost at the point."""
+        self.set_points += 1
+        self.doubtful += self.doubt
+        sheet = self.sheets[sheet]
+        top = sheet.top(x, y)
+        if key is not None and key >= len(sheet.rows):
+            raise Refusal(5)
+        self.right += top == key
+        return top == key
+
+    def summed_up(self):
         for sheet in self.sheets.values():
             sheet.check()
-        self.pages += 1
-        self.lay_out(entries, places)
-        return "0 marks"
+        text = f"page {escaped(self.name)}: right {self.right} of {self.set_points}"
+        text += f", refused {self.refused}, unreadable {self.unreadable}"
+        if self.not_marked > 0:
+            text += f", not marked {self.not_marked}"
+        if self.doubtful > 0:
+            text += f", doubtful {self.doubtful}"
+        return text
 
-    def answer(self, line):
-        """The answer to one line of bytes, or nothing if it has no order. It may have several lines itself."""
+
+def may_alter(words):
+    """Whether a line that cannot be read, of these words, may have been meant to alter a sheet."""
+    if words[:1] in (["set"], ["measure"], ["cover"]):
+        return False
+    return not (words[:1] in (["marks"], ["frames"]) and words[1:2] and words[1] in QUESTIONS)
+
+
+class Sitting:
+    """The page that is open, and the counts over all pages of all files.
+
+    `tell` hears of each line that cannot be read: its file, its number and why.
+    """
+
+    def __init__(self, tell=lambda file, line, why: None):
+        self.tell = tell
+        self.pages = self.orders = self.refused = self.unreadable = self.not_marked = 0
+        self.set_points = self.right = 0
+        self.open_file("-")
+
+    def open_file(self, name):
+        self.file = name
+        self.lines = 0
+        self.page = Page(None)
+
+    def end_page(self):
+        """The sum of the page, in a list; none of one that nothing has begun."""
+        page = self.page
+        if page.name is None:
+            return []
+        self.pages += 1
+        self.refused += page.refused
+        self.not_marked += page.not_marked
+        self.set_points += page.set_points
+        self.right += page.right
+        return [page.summed_up()]
+
+    def close_file(self):
+        answers = self.end_page()
+        self.page = Page(None)
+        return answers
+
+    def take(self, line):
+        """What is written where a line of bytes is read: the sum of a page that ends there, and the line's answer.
+
+        An answer may have several lines itself.
+        """
         self.lines += 1
+        data = line.partition(b"#")[0]
         try:
-            try:
-                text = line.decode("utf-8")
-            except UnicodeDecodeError:
-                raise Unreadable("not UTF-8 text") from None
-            text = TRIM.sub("", text.partition("#")[0])
-            if text == "":
-                return None
+            text, fault = data.decode("utf-8"), None
+        except UnicodeDecodeError as error:
+            text, fault = data[: error.start].decode("utf-8"), "not UTF-8 text"
+        words = words_of(text)
+        if not words and fault is None:
+            return []
+        try:
+            if fault is not None:
+                raise Unreadable(fault)
             asked = read_order(text)
         except Unreadable as why:
-            self.unreadable += 1
-            return f"{self.lines} unreadable: {why}"
-        if self.orders == 0 and not text.startswith("page"):
-            self.pages += 1  # the page before the first page line
+            return self.take_unreadable(words, escaped(str(why)))
+        ended = self.end_page() if words[0] == "page" else []
+        return [*ended, f"{self.lines} {escaped(TRIM.sub('', text))} -> {self.take_order(asked, words[0])}"]
+
+    def take_unreadable(self, words, why):
+        ended = []
+        if words[:1] == ["page"]:
+            ended = self.end_page()
+            self.page = Page(f"line {self.lines}", unread=self.lines)
+        elif may_alter(words):
+            self.page.doubt = True
+        self.unreadable += 1
+        self.page.unreadable += 1
+        self.tell(self.file, self.lines, why)
+        return [*ended, f"{self.lines} unreadable: {why}"]
+
+    def take_order(self, asked, kind):
         self.orders += 1
+        page = self.page
+        if kind != "page" and page.name is None:
+            page.name = f"line {self.lines}"
+        if kind != "page" and page.unread is not None:
+            page.not_marked += 1
+            return f"not marked: line {page.unread}"
         try:
-            answer = asked(self)
+            return asked(self)
         except Refusal as refusal:
-            self.refused += 1
-            answer = str(refusal)
-        return f"{self.lines} {text} -> {answer}"
+            page.refused += 1
+            return str(refusal)
 
     def tally(self):
-        counts = (self.pages, self.orders, self.refused, self.unreadable, self.right, self.set_points)
-        pages, orders, refused, unreadable, right, set_points = (min(n, MOST_COUNTED) for n in counts)
-        return (
-            f"pages {pages}, orders {orders}, refused {refused}, unreadable lines {unreadable}\n"
-            f"right {right} of {set_points}"
-        )
+        text = f"pages {self.pages}, orders {self.orders}, refused {self.refused}, unreadable lines {self.unreadable}"
+        if self.not_marked > 0:
+            text += f", not marked {self.not_marked}"
+        return [text, f"right {self.right} of {self.set_points}"]
 
 
-def lines_of(text):
-    """The lines of the input; what stands behind the last end of a line is a line if it is not empty."""
-    lines = text.split(b"\n")
+def lines_of(data):
+    """The lines of a file. What stands behind the last end of a line is a line if it is not empty."""
+    lines = LINE_END.split(data.removeprefix(BYTE_ORDER_MARK))
     return lines[:-1] if lines[-1] == b"" else lines
 
 
-def main():
-    sitting = Sitting()
-    out = []
-    for line in lines_of(sys.stdin.buffer.read()):
-        answer = sitting.answer(line)
-        if answer is not None:
-            out.append(answer)
-    for sheet in sitting.sheets.values():
-        sheet.check()
-    out.append(sitting.tally())
-    sys.stdout.buffer.write(("\n".join(out) + "\n").encode("utf-8"))
+def answers_of(files, strict=False, **how):
+    """All that is written of files, pairs of a name and the bytes; and whether every line was read."""
+    sitting = Sitting(**how)
+    written = []
+    for name, data in files:
+        sitting.open_file(name)
+        for line in lines_of(data):
+            written += sitting.take(line)
+            if strict and sitting.unreadable > 0:
+                break
+        written += sitting.close_file()
+        if strict and sitting.unreadable > 0:
+            break
+    written += sitting.tally()
+    return written, sitting.unreadable == 0
+
+
+def contents(name):
+    return sys.stdin.buffer.read() if name == "-" else Path(name).read_bytes()
+
+
+def tell(file, line, why):
+    print(f"{file}:{line}: {why}", file=sys.stderr)
+
+
+def main(arguments):
+    names = [argument for argument in arguments if argument != "--strict"] or ["-"]
+    files = ((name, contents(name)) for name in names)
+    written, well = answers_of(files, "--strict" in arguments, tell=tell)
+    sys.stdout.buffer.write(("\n".join(written) + "\n").encode("utf-8"))
+    return 0 if well else 1
 
 
 if __name__ == "__main__":
-    main()
+    sys.exit(main(sys.argv[1:]))

@@ -1,2 +1,3 @@
-pub mod Accounts
-pub mod Tellings
+mod NumberLists
+pub mod Drawings
+pub mod Pages

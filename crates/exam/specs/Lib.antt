@@ -1,6 +1,4 @@
-pub mod Drawings
 pub mod Replies
-pub mod Rooms
-pub mod Sittings
-pub mod Tellings
+pub mod Pages
+pub mod Moments
 pub mod Texts

@@ -1,22 +1,23 @@
--- What single orders are answered: set points, measures and questions about pieces; and which answers are refusals. Assumes nothing.
-use Rattle.std.specs.Prelude.{ℕ, Bool, true, false, nat_eq, List, [], Some, None, Ok, Err, Option, Result, length}
+-- What single orders are answered: set points, measures and questions about coverings; and which answers are refusals. Assumes nothing.
+use Rattle.std.specs.Prelude.{ℕ, Bool, true, false, cond, nat_eq, nat_lt, List, Some, None, Ok, Err, Option, Result}
 use Rattle.plane.specs.declared.bezpath.PathEl.{PathEl}
 use Rattle.plane.specs.declared.fault.ShapeFault.{ShapeFault}
 use Rattle.plane.specs.Paths.{Drawn}
 use Rattle.marks.specs.declared.measures.Measures.{Measures}
 use Rattle.marks.specs.Measured.{measures_of}
+use Rattle.pieces.specs.declared.piece.Piece.{Piece}
 use Rattle.pieces.specs.Pieces.{wind, box, drawn}
+use Rattle.sheets.specs.declared.fault.SheetFault.TheVariants.{NoMark}
 use Rattle.sheets.specs.declared.order.Answer.{Answer}
 use Rattle.sheets.specs.declared.order.Answer.TheVariants as Answers
 use Rattle.sheets.specs.Answers.{elements_of}
-use Rattle.sheets.specs.Book.{at_page_point}
+use Rattle.sheets.specs.Book.{at_page_point, draw_answer, draw_buffer}
 use Rattle.sheets.specs.Runs.{answered}
 use Rattle.exam.specs.declared.reply.Reply.{Reply}
 use Rattle.exam.specs.declared.reply.Reply.TheVariants.{Said, Right, Measures as Measured, Shape, Move}
-use Rattle.exam.specs.declared.step.Asked.{Asked}
-use Rattle.exam.specs.declared.step.Measured.{Measured as Meant}
-use Rattle.exam.specs.declared.step.Question.{Question}
-use Rattle.exam.specs.declared.step.Question.TheVariants.{Winding, BoundingBox, Draw}
+use Rattle.orders.specs.declared.order.Measured.{Measured as Meant}
+use Rattle.orders.specs.declared.order.Question.{Question}
+use Rattle.orders.specs.declared.order.Question.TheVariants.{Winding, BoundingBox, Draw}
 
 -- ---- set points
 -- one position, or nothing, and the same
@@ -26,15 +27,20 @@ same_top (Some i) None = false
 same_top None (Some j) = false
 same_top None None = true
 
--- right exactly if the key says which mark is uppermost, or that none is; a refusal stays one
-abbrev pub verdict : Option ℕ → Answer → Reply
-verdict key (Answers.Top top) = Right (same_top top key)
-verdict key (Answers.Position i) = Said (Answers.Position i)
-verdict key (Answers.Marks n) = Said (Answers.Marks n)
-verdict key (Answers.Winding w) = Said (Answers.Winding w)
-verdict key (Answers.Box b) = Said (Answers.Box b)
-verdict key (Answers.Elements n) = Said (Answers.Elements n)
-verdict key (Answers.Refused f) = Said (Answers.Refused f)
+-- right exactly if the key says which mark is uppermost, or that none is; a key that names none of so many marks is refused
+abbrev pub judged : Option ℕ → ℕ → Option ℕ → Reply
+judged None marks top = Right (same_top top None)
+judged (Some i) marks top = cond (nat_lt i marks) (Right (same_top top (Some i))) (Said (Answers.Refused NoMark))
+
+-- a refusal stays one
+abbrev pub verdict : Option ℕ → ℕ → Answer → Reply
+verdict key marks (Answers.Top top) = judged key marks top
+verdict key marks (Answers.Position i) = Said (Answers.Position i)
+verdict key marks (Answers.Marks n) = Said (Answers.Marks n)
+verdict key marks (Answers.Winding w) = Said (Answers.Winding w)
+verdict key marks (Answers.Box b) = Said (Answers.Box b)
+verdict key marks (Answers.Elements n) = Said (Answers.Elements n)
+verdict key marks (Answers.Refused f) = Said (Answers.Refused f)
 
 -- ---- measures
 abbrev pub measured_as : Result Measures ShapeFault → Reply
@@ -44,26 +50,26 @@ measured_as (Err f) = Shape f
 abbrev pub measured : Meant → Reply
 measured m = measured_as (measures_of m.mark m.accuracy m.allowance)
 
--- ---- questions about a piece
-abbrev pub drawn_as : Drawn → Reply
-drawn_as (Ok els) = Said (Answers.Elements (length els))
-drawn_as (Err f) = Shape f
+-- ---- questions about a covering, where the buffer has so many places
+-- a path is drawn as a sheet is, or refused by the shape
+abbrev pub cover_drawn : ℕ → Drawn → Reply
+cover_drawn places (Ok els) = Said (answered Answers.Elements (draw_answer places (Ok els)))
+cover_drawn places (Err f) = Shape f
+
+abbrev pub path_buffer : List PathEl → Drawn → List PathEl
+path_buffer buffer (Ok els) = draw_buffer buffer (Ok els)
+path_buffer buffer (Err f) = buffer
 
 -- at a page point its winding, and elsewhere a refusal; its box; the count of its path's elements
-abbrev pub told_of : Asked → Question → Reply
-told_of a (Winding p) = Said (answered Answers.Winding (at_page_point p (wind a.piece p)))
-told_of a BoundingBox = Said (Answers.Box (Some (box a.piece)))
-told_of a (Draw t) = drawn_as (drawn a.piece t)
+abbrev pub cover_reply : ℕ → Piece → Question → Reply
+cover_reply places s (Winding p) = Said (answered Answers.Winding (at_page_point p (wind s p)))
+cover_reply places s BoundingBox = Said (Answers.Box (Some (box s)))
+cover_reply places s (Draw t) = cover_drawn places (drawn s t)
 
--- the elements of its path, if it is granted
-abbrev pub path_in : Drawn → List PathEl
-path_in (Ok els) = els
-path_in (Err f) = []
-
-abbrev pub drawn_of : Asked → Question → List PathEl
-drawn_of a (Winding p) = []
-drawn_of a BoundingBox = []
-drawn_of a (Draw t) = path_in (drawn a.piece t)
+abbrev pub cover_buffer : List PathEl → Piece → Question → List PathEl
+cover_buffer buffer s (Winding p) = buffer
+cover_buffer buffer s BoundingBox = buffer
+cover_buffer buffer s (Draw t) = path_buffer buffer (drawn s t)
 
 -- ---- drawn elements, refusals, and right answers
 abbrev pub elements_in : Reply → ℕ

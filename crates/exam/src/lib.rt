@@ -1,13 +1,10 @@
-//! An examination in choral engraving: the orders of a sitting, carried out on a sheet of marks and a sheet of frames,
-//! and the set points marked.
+//! An examination in choral engraving: a page with its two sheets, and the orders carried out on it.
 #![tactic(auto)]
 
-pub mod account;
 mod ask;
+pub mod page;
 pub mod reply;
-pub mod room;
-pub mod step;
-pub mod tell;
+mod sheet;
 #[cfg(test)]
 mod tests;
 pub mod text;

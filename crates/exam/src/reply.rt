@@ -5,6 +5,7 @@ ghost use Rattle.exam.specs.Replies.{elements_in, is_refused, is_right, verdict}
 use layers::fault::MoveFault;
 use marks::measures::Measures;
 use plane::fault::ShapeFault;
+use sheets::fault::SheetFault;
 use sheets::order::Answer;
 
 /// What an order of a sitting is answered.
@@ -23,14 +24,18 @@ pub enum Reply {
 }
 
 impl Reply {
-    /// The verdict on a set point with this key, where the sheet of marks gives `answer` to the question which mark is
-    /// uppermost: right exactly if that is what the key says; a refusal stays one.
-    pub fn verdict(key: Option<usize>, answer: Answer) -> Reply
-        ensures { result ≡ verdict key answer }
+    /// The verdict on a set point with this key, where a sheet of so many marks gives `answer` to the question which mark
+    /// is uppermost: right exactly if that is what the key says. A refusal stays one, and then a key that names no mark
+    /// is refused with 5 NO MARK.
+    pub fn verdict(key: Option<usize>, marks: usize, answer: Answer) -> Reply
+        ensures { result ≡ verdict key marks answer }
     {
-        match answer {
-            Answer::Top(top) => Reply::Right(top == key),
-            other => Reply::Said(other),
+        let Answer::Top(top) = answer else {
+            return Reply::Said(answer);
+        };
+        match key {
+            Some(position) if position >= marks => Reply::Said(Answer::Refused(SheetFault::NoMark)),
+            _ => Reply::Right(top == key),
         }
     }
 

@@ -15,26 +15,29 @@ use Rattle.layers.specs.Moves.{unmoved}
 use Rattle.marks.specs.declared.mark.Mark.{Mark}
 use Rattle.marks.specs.declared.mark.Mark.TheVariants as marks
 use Rattle.sheets.specs.declared.order.Order.{Order}
-use Rattle.exam.specs.declared.step.Question.{Question}
-use Rattle.exam.specs.declared.step.Measured.{Measured}
-use Rattle.exam.specs.declared.step.SetPoint.{SetPoint}
-use Rattle.exam.specs.declared.step.Sizes.{Sizes}
 use Rattle.orders.specs.declared.kinds.Kind.{Kind}
 use Rattle.orders.specs.declared.kinds.Kind.TheVariants as kinds
 use Rattle.orders.specs.declared.line.Line.{Line}
+use Rattle.orders.specs.declared.order.CoverQuery.{CoverQuery}
+use Rattle.orders.specs.declared.order.Measured.{Measured}
+use Rattle.orders.specs.declared.order.Question.{Question}
+use Rattle.orders.specs.declared.order.SetPoint.{SetPoint}
+use Rattle.orders.specs.declared.order.SheetOrder.{SheetOrder}
+use Rattle.orders.specs.declared.order.SheetOrder.TheVariants.{Call, Set}
+use Rattle.orders.specs.declared.order.Sizes.{Sizes}
 use Rattle.orders.specs.Words.{Text, ended, words_after, words_of}
 use Rattle.orders.specs.Reasons.{no_number, no_position, no_allowance, no_size, no_key, no_page}
 use Rattle.orders.specs.Covers.{up_to_over, upper, question, cover}
-use Rattle.orders.specs.Grammar.{IsNumber, IsPosition, IsAllowance, IsSize, EachNumber, Numbers, IsShape, IsFrame, IsBy, as_it_is, moved_by, IsOrder, put_order, shift_order, shift_all_order, lift_order, winding_order, top_order, box_order, draw_order, IsQuestion, ask_winding, ask_box, ask_draw, IsKey, key_within, key_outside, IsEffort, of_ellipse, of_others, Says, page_line, entries_line, places_line, marks_line, frames_line, set_line, measure_line, cover_line}
+use Rattle.orders.specs.Grammar.{IsNumber, IsPosition, IsAllowance, IsSize, EachNumber, Numbers, IsShape, IsFrame, IsBy, as_it_is, moved_by, IsCall, put_call, shift_call, shift_all_call, lift_call, winding_call, top_call, box_call, draw_call, IsKey, key_within, key_outside, IsSetPoint, IsOrder, call_order, set_order, IsQuestion, ask_winding, ask_box, ask_draw, IsEffort, of_ellipse, of_others, Says, page_line, entries_line, places_line, marks_line, frames_line, set_line, measure_line, cover_line}
 use Rattle.orders.specs.Kinds.{is, kind_of, measured_count, rectangle, shape, mark, frame, effort, measured_as, measured}
-use Rattle.orders.specs.Lines.{size_or, sizes, page, within, key, set, line}
+use Rattle.orders.specs.Lines.{size_or, sizes, page, line}
 use Rattle.orders.specs.Runs.{◌>>=◌, Left, left, run, first_of, others_of, word, after, next, no_word, end, number, position, allowance, numbers, made_of, six, two, number_of, position_of, allowance_of, size_of}
-use Rattle.orders.specs.Sheets.{Placement, placement, moved, placed, put, shift, shift_all, order, last_position, last_point, last_tolerance}
-use Rattle.orders.specs.Values.{whole, up_to, map_of, point_of, count, rect_of, circle_of, triangle_of, rounded_of, ellipse_of, on_ok, covering, asked, step, name, shape_of}
-use Rattle.sheets.specs.declared.order.Order.TheVariants as orders
-use Rattle.exam.specs.declared.step.Question.TheVariants as questions
-use Rattle.exam.specs.declared.step.Step.TheVariants as steps
-use Rattle.exam.specs.declared.step.Asked.{Asked}
+use Rattle.orders.specs.SetPoints.{within, key, set_point}
+use Rattle.orders.specs.Sheets.{Placement, placement, moved, placed, put, shift, shift_all, call, order, last_position, last_point, last_tolerance}
+use Rattle.orders.specs.Values.{whole, up_to, map_of, point_of, count, rect_of, circle_of, triangle_of, rounded_of, ellipse_of, on_ok, covering, query, or_no_move, name, shape_of}
+use Rattle.sheets.specs.declared.order.Order.TheVariants as calls
+use Rattle.orders.specs.declared.order.Question.TheVariants as questions
+use Rattle.orders.specs.declared.order.PageOrder.TheVariants as orders
 use Rattle.orders.specs.declared.line.Line.TheVariants as lines
 use Rattle.orders.specs.Moved.{move_of}
 
@@ -380,73 +383,138 @@ no_word_is : (w m : Text) (x : Unit {0}) → no_word w m ≡ Ok x → w ≡ []
 no_word_is [] m x e = refl
 no_word_is (b ∷ bs) m x e = absurd cc
 
+-- ---- a word that may stand there
+some_if : (w : Text) → is w "" ≡ false → T (some w)
+some_if [] e = absurd cc
+some_if (b ∷ bs) e = tt
+
+there : (s : Left) → is (word s) "" ≡ false → s.words ≡ word s ∷ (after s).words
+there s e = opens s.words (word s) refl (some_if (word s) e)
+
+not_there : (s : Left) → Real s.words → is (word s) "" ≡ true → s.words ≡ []
+not_there s r e = none_real s.words r (is_word (word s) "" e)
+
+-- ---- set points
+within_found : (s : Left) (p : ℕ × Left) → Real s.words → within s ≡ Ok p → One (λ w. IsPosition w p.0) s.words p.1
+unfolding within position_of
+within_found s p r e =
+    elim (chosen (is (word s) "") _ _ _ e) [
+      | inl h ↦ absurd (let clash = h.1 in cc)
+      | inr h ↦ let a = bind_ok (ok_or (whole 64 (word s)) (no_position (word s))) (λ n. Ok (n, after s)) p h.1 in
+          let q : (a.0, after s) ≡ p = ok_is _ _ a.2 in
+          subst (λ (u : ℕ × Left). One (λ w. IsPosition w u.0) s.words u.1) q (record {
+            word = word s;
+            words = there s h.0;
+            fits = some_is (whole 64 (word s)) (no_position (word s)) a.0 a.1;
+            real = others_real s.words r;
+          })
+    ]
+
+-- a key, if nothing stands after it
+record Keyed (ws : List Text) (p : Option ℕ × Left) : Type 0 where
+  real : Real p.1.words
+  key : p.1.words ≡ [] → IsKey ws p.0
+
+key_found : (s : Left) (p : Option ℕ × Left) → Real s.words → key s ≡ Ok p → Keyed s.words p
+unfolding key
+key_found s p r e =
+    elim (pick s.words "within" _ _ _ tt e) [
+      | inl h ↦ let a = bind_ok (within (after s)) (λ n. Ok (Some n.0, n.1)) p h.1 in
+          let o = within_found (after s) a.0 (others_real s.words r) a.1 in
+          let q : (Some a.0.0, a.0.1) ≡ p = ok_is _ _ a.2 in
+          subst (λ (u : Option ℕ × Left). Keyed s.words u) q (record {
+            real = o.real;
+            key = λ z. key_within o.word a.0.0 (h.0 ∙ ap (λ l. codes "within" ∷ l) (o.words ∙ ap (λ l. o.word ∷ l) z)) o.fits refl;
+          })
+      | inr e ↦ elim (pick s.words "outside" _ _ _ tt e) [
+        | inl h ↦ let q : (None, after s) ≡ p = ok_is _ _ h.1 in
+            subst (λ (u : Option ℕ × Left). Keyed s.words u) q (record {
+              real = others_real s.words r;
+              key = λ z. key_outside (h.0 ∙ ap (λ l. codes "outside" ∷ l) z) refl;
+            })
+        | inr e ↦ absurd cc
+      ]
+    ]
+
+set_found : (s : Left) (x : SetPoint) → Real s.words → set_point s ≡ Ok x → IsSetPoint s.words x
+unfolding set_point
+set_found s x r e =
+    let a = bind_ok (two s) (λ p. key p.1 >>= λ k. no_word (word k.1) no_key >>= λ _. Ok (record { at = p.0; key = k.0 })) x e in
+    let h = two_found s a.0 r a.1 in
+    let b = bind_ok (key a.0.1) (λ k. no_word (word k.1) no_key >>= λ _. Ok (record { at = a.0.0; key = k.0 })) x a.2 in
+    let k = key_found a.0.1 b.0 h.real b.1 in
+    let c = bind_ok (no_word (word b.0.1) no_key) (λ _. Ok (record { at = a.0.0; key = b.0.0 })) x b.2 in
+    let none = none_real b.0.1.words k.real (no_word_is (word b.0.1) no_key c.0 c.1) in
+    subst (λ (y : SetPoint). IsSetPoint s.words y) (ok_is _ _ c.2)
+    (record { places = h.places; values = h.values; after = a.0.1.words; words = h.words; numbers = h.numbers; at = h.value; key = k.key none })
+
 -- ---- orders to a sheet
 module _ {M : Type 0} (reads : Left → Result (M × Left) Text) (IsMark : List Text → M → Type 0) (spelling : Spelling reads IsMark) where
   abbrev Outcome : Type 0
   Outcome = Result (Order M) MoveFault
 
-  put_found : (ws : List Text) (s : Left) (o : Outcome) → ws ≡ codes "put" ∷ s.words → Real s.words → put reads s ≡ Ok o → IsOrder IsMark ws o
+  put_found : (ws : List Text) (s : Left) (o : Outcome) → ws ≡ codes "put" ∷ s.words → Real s.words → put reads s ≡ Ok o → IsCall IsMark ws o
   unfolding put
   put_found ws s o g r e =
-      let a = bind_ok (placed reads s) (λ p. no_word p.0.next p.1.miscount >>= λ _. Ok (on_ok (λ b. orders.Put p.0.mark b) (move_of p.0.by))) o e in
+      let a = bind_ok (placed reads s) (λ p. no_word p.0.next p.1.miscount >>= λ _. Ok (on_ok (λ b. calls.Put p.0.mark b) (move_of p.0.by))) o e in
       let h = placed_found reads IsMark spelling s a.0 r a.1 in
-      let b = bind_ok (no_word a.0.0.next a.0.1.miscount) (λ _. Ok (on_ok (λ b. orders.Put a.0.0.mark b) (move_of a.0.0.by))) o a.2 in
+      let b = bind_ok (no_word a.0.0.next a.0.1.miscount) (λ _. Ok (on_ok (λ b. calls.Put a.0.0.mark b) (move_of a.0.0.by))) o a.2 in
       let none : h.rest ≡ [] = none_real h.rest h.real (sym h.next ∙ no_word_is a.0.0.next a.0.1.miscount b.0 b.1) in
       let q : s.words ≡ h.front ++ h.back = h.words ∙ ap (λ l. h.front ++ (h.back ++ l)) none ∙ ap (λ l. h.front ++ l) (append-nil h.back) in
-      put_order h.front h.back a.0.0.mark a.0.0.by (g ∙ ap (λ l. codes "put" ∷ l) q) h.mark h.by (sym (ok_is _ _ b.2))
+      put_call h.front h.back a.0.0.mark a.0.0.by (g ∙ ap (λ l. codes "put" ∷ l) q) h.mark h.by (sym (ok_is _ _ b.2))
 
-  shift_found : (ws : List Text) (s : Left) (o : Outcome) → ws ≡ codes "shift" ∷ s.words → Real s.words → shift s ≡ Ok o → IsOrder IsMark ws o
+  shift_found : (ws : List Text) (s : Left) (o : Outcome) → ws ≡ codes "shift" ∷ s.words → Real s.words → shift s ≡ Ok o → IsCall IsMark ws o
   unfolding shift
   shift_found ws s o g r e =
-      let a = bind_ok (position (run 7 s.words)) (λ n. six n.1 >>= λ b. end b.1 >>= λ _. Ok (on_ok (λ m. orders.Shift n.0 m) (move_of b.0))) o e in
+      let a = bind_ok (position (run 7 s.words)) (λ n. six n.1 >>= λ b. end b.1 >>= λ _. Ok (on_ok (λ m. calls.Shift n.0 m) (move_of b.0))) o e in
       let h = position_found (run 7 s.words) a.0 r a.1 in
-      let b = bind_ok (six a.0.1) (λ b. end b.1 >>= λ _. Ok (on_ok (λ m. orders.Shift a.0.0 m) (move_of b.0))) o a.2 in
+      let b = bind_ok (six a.0.1) (λ b. end b.1 >>= λ _. Ok (on_ok (λ m. calls.Shift a.0.0 m) (move_of b.0))) o a.2 in
       let k = six_found a.0.1 b.0 h.real b.1 in
-      let c = bind_ok (end b.0.1) (λ _. Ok (on_ok (λ m. orders.Shift a.0.0 m) (move_of b.0.0))) o b.2 in
+      let c = bind_ok (end b.0.1) (λ _. Ok (on_ok (λ m. calls.Shift a.0.0 m) (move_of b.0.0))) o b.2 in
       let all = all_of map_of 6 a.0.1.words b.0 k (end_found b.0.1 c.0 k.real c.1) in
-      shift_order h.word a.0.1.words a.0.0 all.values (g ∙ ap (λ l. codes "shift" ∷ l) h.words) h.fits all.numbers (sym (ok_is _ _ c.2) ∙ ap (λ m. on_ok (λ v. orders.Shift a.0.0 v) (move_of m)) all.value)
+      shift_call h.word a.0.1.words a.0.0 all.values (g ∙ ap (λ l. codes "shift" ∷ l) h.words) h.fits all.numbers (sym (ok_is _ _ c.2) ∙ ap (λ m. on_ok (λ v. calls.Shift a.0.0 v) (move_of m)) all.value)
 
-  shift_all_found : (ws : List Text) (s : Left) (o : Outcome) → ws ≡ codes "shift_all" ∷ s.words → Real s.words → shift_all s ≡ Ok o → IsOrder IsMark ws o
+  shift_all_found : (ws : List Text) (s : Left) (o : Outcome) → ws ≡ codes "shift_all" ∷ s.words → Real s.words → shift_all s ≡ Ok o → IsCall IsMark ws o
   unfolding shift_all
   shift_all_found ws s o g r e =
-      let b = bind_ok (six (run 6 s.words)) (λ b. end b.1 >>= λ _. Ok (on_ok (λ m. orders.ShiftAll m) (move_of b.0))) o e in
+      let b = bind_ok (six (run 6 s.words)) (λ b. end b.1 >>= λ _. Ok (on_ok (λ m. calls.ShiftAll m) (move_of b.0))) o e in
       let k = six_found (run 6 s.words) b.0 r b.1 in
-      let c = bind_ok (end b.0.1) (λ _. Ok (on_ok (λ m. orders.ShiftAll m) (move_of b.0.0))) o b.2 in
+      let c = bind_ok (end b.0.1) (λ _. Ok (on_ok (λ m. calls.ShiftAll m) (move_of b.0.0))) o b.2 in
       let all = all_of map_of 6 s.words b.0 k (end_found b.0.1 c.0 k.real c.1) in
-      shift_all_order s.words all.values g all.numbers (sym (ok_is _ _ c.2) ∙ ap (λ m. on_ok (λ v. orders.ShiftAll v) (move_of m)) all.value)
+      shift_all_call s.words all.values g all.numbers (sym (ok_is _ _ c.2) ∙ ap (λ m. on_ok (λ v. calls.ShiftAll v) (move_of m)) all.value)
 
-  lift_found : (ws : List Text) (s : Left) (o : Outcome) → ws ≡ codes "lift" ∷ s.words → Real s.words → (last_position s >>= λ n. Ok (Ok (orders.Lift n))) ≡ Ok o → IsOrder IsMark ws o
+  lift_found : (ws : List Text) (s : Left) (o : Outcome) → ws ≡ codes "lift" ∷ s.words → Real s.words → (last_position s >>= λ n. Ok (Ok (calls.Lift n))) ≡ Ok o → IsCall IsMark ws o
   lift_found ws s o g r e =
-      let a = bind_ok (last_position s) (λ n. Ok (Ok (orders.Lift n))) o e in
+      let a = bind_ok (last_position s) (λ n. Ok (Ok (calls.Lift n))) o e in
       let h = last_position_found s a.0 r a.1 in
-      lift_order h.word a.0 (g ∙ ap (λ l. codes "lift" ∷ l) h.words) h.fits (sym (ok_is _ _ a.2))
+      lift_call h.word a.0 (g ∙ ap (λ l. codes "lift" ∷ l) h.words) h.fits (sym (ok_is _ _ a.2))
 
-  winding_found : (ws : List Text) (s : Left) (o : Outcome) → ws ≡ codes "winding" ∷ s.words → Real s.words → (last_point s >>= λ p. Ok (Ok (orders.Winding p))) ≡ Ok o → IsOrder IsMark ws o
+  winding_found : (ws : List Text) (s : Left) (o : Outcome) → ws ≡ codes "winding" ∷ s.words → Real s.words → (last_point s >>= λ p. Ok (Ok (calls.Winding p))) ≡ Ok o → IsCall IsMark ws o
   winding_found ws s o g r e =
-      let a = bind_ok (last_point s) (λ p. Ok (Ok (orders.Winding p))) o e in
+      let a = bind_ok (last_point s) (λ p. Ok (Ok (calls.Winding p))) o e in
       let h = point_found s a.0 r a.1 in
-      winding_order s.words h.values g h.numbers (sym (ok_is _ _ a.2) ∙ ap (λ p. Ok (orders.Winding p)) h.value)
+      winding_call s.words h.values g h.numbers (sym (ok_is _ _ a.2) ∙ ap (λ p. Ok (calls.Winding p)) h.value)
 
-  top_found : (ws : List Text) (s : Left) (o : Outcome) → ws ≡ codes "top" ∷ s.words → Real s.words → (last_point s >>= λ p. Ok (Ok (orders.Top p))) ≡ Ok o → IsOrder IsMark ws o
+  top_found : (ws : List Text) (s : Left) (o : Outcome) → ws ≡ codes "top" ∷ s.words → Real s.words → (last_point s >>= λ p. Ok (Ok (calls.Top p))) ≡ Ok o → IsCall IsMark ws o
   top_found ws s o g r e =
-      let a = bind_ok (last_point s) (λ p. Ok (Ok (orders.Top p))) o e in
+      let a = bind_ok (last_point s) (λ p. Ok (Ok (calls.Top p))) o e in
       let h = point_found s a.0 r a.1 in
-      top_order s.words h.values g h.numbers (sym (ok_is _ _ a.2) ∙ ap (λ p. Ok (orders.Top p)) h.value)
+      top_call s.words h.values g h.numbers (sym (ok_is _ _ a.2) ∙ ap (λ p. Ok (calls.Top p)) h.value)
 
-  box_found : (ws : List Text) (s : Left) (o : Outcome) → ws ≡ codes "bounding_box" ∷ s.words → Real s.words → (end (run 0 s.words) >>= λ _. Ok (Ok orders.BoundingBox)) ≡ Ok o → IsOrder IsMark ws o
+  box_found : (ws : List Text) (s : Left) (o : Outcome) → ws ≡ codes "bounding_box" ∷ s.words → Real s.words → (end (run 0 s.words) >>= λ _. Ok (Ok calls.BoundingBox)) ≡ Ok o → IsCall IsMark ws o
   box_found ws s o g r e =
-      let a = bind_ok (end (run 0 s.words)) (λ _. Ok (Ok orders.BoundingBox)) o e in
-      box_order (g ∙ ap (λ l. codes "bounding_box" ∷ l) (end_found (run 0 s.words) a.0 r a.1)) (sym (ok_is _ _ a.2))
+      let a = bind_ok (end (run 0 s.words)) (λ _. Ok (Ok calls.BoundingBox)) o e in
+      box_call (g ∙ ap (λ l. codes "bounding_box" ∷ l) (end_found (run 0 s.words) a.0 r a.1)) (sym (ok_is _ _ a.2))
 
-  draw_found : (ws : List Text) (s : Left) (o : Outcome) → ws ≡ codes "draw" ∷ s.words → Real s.words → (last_tolerance s >>= λ t. Ok (Ok (orders.Draw t))) ≡ Ok o → IsOrder IsMark ws o
+  draw_found : (ws : List Text) (s : Left) (o : Outcome) → ws ≡ codes "draw" ∷ s.words → Real s.words → (last_tolerance s >>= λ t. Ok (Ok (calls.Draw t))) ≡ Ok o → IsCall IsMark ws o
   draw_found ws s o g r e =
-      let a = bind_ok (last_tolerance s) (λ t. Ok (Ok (orders.Draw t))) o e in
+      let a = bind_ok (last_tolerance s) (λ t. Ok (Ok (calls.Draw t))) o e in
       let h = tolerance_found s a.0 r a.1 in
-      draw_order h.word a.0 (g ∙ ap (λ l. codes "draw" ∷ l) h.words) h.fits (sym (ok_is _ _ a.2))
+      draw_call h.word a.0 (g ∙ ap (λ l. codes "draw" ∷ l) h.words) h.fits (sym (ok_is _ _ a.2))
 
-  order_found : (s : Left) (o : Outcome) → Real s.words → order reads s ≡ Ok o → IsOrder IsMark s.words o
-  unfolding order
-  order_found s o r e =
+  call_found : (s : Left) (o : Outcome) → Real s.words → call reads (word s) (after s) ≡ Ok o → IsCall IsMark s.words o
+  unfolding call
+  call_found s o r e =
       let t = after s in
       let q = others_real s.words r in
       elim (pick s.words "put" _ _ _ tt e) [
@@ -473,6 +541,16 @@ module _ {M : Type 0} (reads : Left → Result (M × Left) Text) (IsMark : List 
             ]
           ]
         ]
+      ]
+
+  order_found : (s : Left) (o : Result (SheetOrder M) MoveFault) → Real s.words → order reads s ≡ Ok o → IsOrder IsMark s.words o
+  unfolding order
+  order_found s o r e =
+      elim (pick s.words "set" _ _ _ tt e) [
+        | inl h ↦ let a = bind_ok (set_point (after s)) (λ p. Ok (Ok (Set p))) o h.1 in
+            set_order (after s).words a.0 h.0 (set_found (after s) a.0 (others_real s.words r) a.1) (sym (ok_is _ _ a.2))
+        | inr e ↦ let a = bind_ok (call reads (word s) (after s)) (λ c. Ok (on_ok Call c)) o e in
+            call_order a.0 (call_found s a.0 r a.1) (sym (ok_is _ _ a.2))
       ]
 
 -- ---- coverings
@@ -528,83 +606,18 @@ upper_found s p r e =
       ]
     ]
 
-cover_found : (ws : List Text) (s : Left) (o : Result Asked MoveFault) → ws ≡ codes "cover" ∷ s.words → Real s.words → cover s ≡ Ok o → Says ws (step steps.Ask o)
+cover_found : (ws : List Text) (s : Left) (o : Result CoverQuery MoveFault) → ws ≡ codes "cover" ∷ s.words → Real s.words → cover s ≡ Ok o → Says ws (or_no_move orders.Cover o)
 unfolding cover
 cover_found ws s o g r e =
-    let a = bind_ok (upper s) (λ u. placed mark u.1 >>= λ l. question l.0.next l.1 >>= λ q. Ok (asked q (covering u.0.0 u.0.1 l.0.mark l.0.by))) o e in
+    let a = bind_ok (upper s) (λ u. placed mark u.1 >>= λ l. question l.0.next l.1 >>= λ q. Ok (query q (covering u.0.0 u.0.1 l.0.mark l.0.by))) o e in
     let h = upper_found s a.0 r a.1 in
-    let b = bind_ok (placed mark a.0.1) (λ l. question l.0.next l.1 >>= λ q. Ok (asked q (covering a.0.0.0 a.0.0.1 l.0.mark l.0.by))) o a.2 in
+    let b = bind_ok (placed mark a.0.1) (λ l. question l.0.next l.1 >>= λ q. Ok (query q (covering a.0.0.0 a.0.0.1 l.0.mark l.0.by))) o a.2 in
     let k = placed_found mark IsShape mark_found a.0.1 b.0 h.real b.1 in
-    let c = bind_ok (question b.0.0.next b.0.1) (λ q. Ok (asked q (covering a.0.0.0 a.0.0.1 b.0.0.mark b.0.0.by))) o b.2 in
+    let c = bind_ok (question b.0.0.next b.0.1) (λ q. Ok (query q (covering a.0.0.0 a.0.0.1 b.0.0.mark b.0.0.by))) o b.2 in
     let q = question_found k.rest b.0.1 c.0 k.real k.left (ap (λ w. question w b.0.1) (sym k.next) ∙ c.1) in
     cover_line h.front h.back k.front k.back k.rest a.0.0.0 b.0.0.mark a.0.0.1 b.0.0.by c.0
     (g ∙ ap (λ l. codes "cover" ∷ l) h.words ∙ ap (λ l. codes "cover" ∷ (h.front ++ (h.back ++ (codes "over" ∷ l)))) k.words)
-    h.mark h.by k.mark k.by q (ap (step steps.Ask) (sym (ok_is _ _ c.2)))
-
--- ---- a word that may stand there
-some_if : (w : Text) → is w "" ≡ false → T (some w)
-some_if [] e = absurd cc
-some_if (b ∷ bs) e = tt
-
-there : (s : Left) → is (word s) "" ≡ false → s.words ≡ word s ∷ (after s).words
-there s e = opens s.words (word s) refl (some_if (word s) e)
-
-not_there : (s : Left) → Real s.words → is (word s) "" ≡ true → s.words ≡ []
-not_there s r e = none_real s.words r (is_word (word s) "" e)
-
--- ---- set points
-within_found : (s : Left) (p : ℕ × Left) → Real s.words → within s ≡ Ok p → One (λ w. IsPosition w p.0) s.words p.1
-unfolding within position_of
-within_found s p r e =
-    elim (chosen (is (word s) "") _ _ _ e) [
-      | inl h ↦ absurd (let clash = h.1 in cc)
-      | inr h ↦ let a = bind_ok (ok_or (whole 64 (word s)) (no_position (word s))) (λ n. Ok (n, after s)) p h.1 in
-          let q : (a.0, after s) ≡ p = ok_is _ _ a.2 in
-          subst (λ (u : ℕ × Left). One (λ w. IsPosition w u.0) s.words u.1) q (record {
-            word = word s;
-            words = there s h.0;
-            fits = some_is (whole 64 (word s)) (no_position (word s)) a.0 a.1;
-            real = others_real s.words r;
-          })
-    ]
-
--- a key, if nothing stands after it
-record Keyed (ws : List Text) (p : Option ℕ × Left) : Type 0 where
-  real : Real p.1.words
-  key : p.1.words ≡ [] → IsKey ws p.0
-
-key_found : (s : Left) (p : Option ℕ × Left) → Real s.words → key s ≡ Ok p → Keyed s.words p
-unfolding key
-key_found s p r e =
-    elim (pick s.words "within" _ _ _ tt e) [
-      | inl h ↦ let a = bind_ok (within (after s)) (λ n. Ok (Some n.0, n.1)) p h.1 in
-          let o = within_found (after s) a.0 (others_real s.words r) a.1 in
-          let q : (Some a.0.0, a.0.1) ≡ p = ok_is _ _ a.2 in
-          subst (λ (u : Option ℕ × Left). Keyed s.words u) q (record {
-            real = o.real;
-            key = λ z. key_within o.word a.0.0 (h.0 ∙ ap (λ l. codes "within" ∷ l) (o.words ∙ ap (λ l. o.word ∷ l) z)) o.fits refl;
-          })
-      | inr e ↦ elim (pick s.words "outside" _ _ _ tt e) [
-        | inl h ↦ let q : (None, after s) ≡ p = ok_is _ _ h.1 in
-            subst (λ (u : Option ℕ × Left). Keyed s.words u) q (record {
-              real = others_real s.words r;
-              key = λ z. key_outside (h.0 ∙ ap (λ l. codes "outside" ∷ l) z) refl;
-            })
-        | inr e ↦ absurd cc
-      ]
-    ]
-
-set_found : (ws : List Text) (s : Left) (x : SetPoint) → ws ≡ codes "set" ∷ s.words → Real s.words → set s ≡ Ok x → Says ws (lines.Step (steps.Set x))
-unfolding set
-set_found ws s x g r e =
-    let a = bind_ok (two s) (λ p. key p.1 >>= λ k. no_word (word k.1) no_key >>= λ _. Ok (record { at = p.0; key = k.0 })) x e in
-    let h = two_found s a.0 r a.1 in
-    let b = bind_ok (key a.0.1) (λ k. no_word (word k.1) no_key >>= λ _. Ok (record { at = a.0.0; key = k.0 })) x a.2 in
-    let k = key_found a.0.1 b.0 h.real b.1 in
-    let c = bind_ok (no_word (word b.0.1) no_key) (λ _. Ok (record { at = a.0.0; key = b.0.0 })) x b.2 in
-    let none = none_real b.0.1.words k.real (no_word_is (word b.0.1) no_key c.0 c.1) in
-    set_line h.places a.0.1.words h.values b.0.0 (g ∙ ap (λ l. codes "set" ∷ l) h.words) h.numbers (k.key none)
-    (ap (λ y. lines.Step (steps.Set y)) (sym (ok_is _ _ c.2) ∙ ap (λ p. record { at = p; key = b.0.0 }) h.value))
+    h.mark h.by k.mark k.by q (ap (or_no_move orders.Cover) (sym (ok_is _ _ c.2)))
 
 -- ---- measures
 record Tried (ws : List Text) (k : Kind) (p : (Float × ℕ) × Left) : Type 0 where
@@ -631,7 +644,7 @@ effort_found kinds.Ellipse s p r e =
       effort = λ z. of_ellipse h.word k.word refl (h.words ∙ ap (λ l. h.word ∷ l) (k.words ∙ ap (λ l. k.word ∷ l) z)) h.fits k.fits;
     })
 
-measured_found : (ws : List Text) (s : Left) (x : Measured) → ws ≡ codes "measure" ∷ s.words → Real s.words → measured s ≡ Ok x → Says ws (lines.Step (steps.Measure x))
+measured_found : (ws : List Text) (s : Left) (x : Measured) → ws ≡ codes "measure" ∷ s.words → Real s.words → measured s ≡ Ok x → Says ws (lines.Order (orders.Measure x))
 unfolding measured measured_as
 measured_found ws s x g r e =
     let a = bind_ok (kind_of (word s)) (λ k. measured_as k (run (measured_count k) (after s).words)) x e in
@@ -645,7 +658,7 @@ measured_found ws s x g r e =
     measure_line h.places b.0.1.words k h.values c.0.0.0 c.0.0.1
     (g ∙ ap (λ l. codes "measure" ∷ l) (opens s.words (name k) (kind_found (word s) k a.1) (name_some k) ∙ ap (λ l. name k ∷ l) h.words))
     h.numbers (t.effort (end_found c.0.1 d.0 t.real d.1))
-    (ap (λ y. lines.Step (steps.Measure y)) (sym (ok_is _ _ d.2) ∙ ap (λ m. record { mark = m; accuracy = c.0.0.0; allowance = c.0.0.1 }) h.value))
+    (ap (λ y. lines.Order (orders.Measure y)) (sym (ok_is _ _ d.2) ∙ ap (λ m. record { mark = m; accuracy = c.0.0.0; allowance = c.0.0.1 }) h.value))
 
 -- ---- pages
 -- a size that is not said, and nothing more
@@ -696,14 +709,14 @@ page_found ws s z g r e =
     ]
 
 -- ---- lines
-marks_found : (ws : List Text) (s : Left) (l : Line) → ws ≡ codes "marks" ∷ s.words → Real s.words → (order mark s >>= λ o. Ok (step steps.Marks o)) ≡ Ok l → Says ws l
+marks_found : (ws : List Text) (s : Left) (l : Line) → ws ≡ codes "marks" ∷ s.words → Real s.words → (order mark s >>= λ o. Ok (or_no_move orders.Marks o)) ≡ Ok l → Says ws l
 marks_found ws s l g r e =
-    let a = bind_ok (order mark s) (λ o. Ok (step steps.Marks o)) l e in
+    let a = bind_ok (order mark s) (λ o. Ok (or_no_move orders.Marks o)) l e in
     marks_line s.words a.0 g (order_found mark IsShape mark_found s a.0 r a.1) (sym (ok_is _ _ a.2))
 
-frames_found : (ws : List Text) (s : Left) (l : Line) → ws ≡ codes "frames" ∷ s.words → Real s.words → (order frame s >>= λ o. Ok (step steps.Frames o)) ≡ Ok l → Says ws l
+frames_found : (ws : List Text) (s : Left) (l : Line) → ws ≡ codes "frames" ∷ s.words → Real s.words → (order frame s >>= λ o. Ok (or_no_move orders.Frames o)) ≡ Ok l → Says ws l
 frames_found ws s l g r e =
-    let a = bind_ok (order frame s) (λ o. Ok (step steps.Frames o)) l e in
+    let a = bind_ok (order frame s) (λ o. Ok (or_no_move orders.Frames o)) l e in
     frames_line s.words a.0 g (order_found frame IsFrame frame_found s a.0 r a.1) (sym (ok_is _ _ a.2))
 
 -- what was read is what its answer says
@@ -724,11 +737,11 @@ read_is_spelled s l r e =
         | inr e ↦ elim (pick s.words "frames" _ _ _ tt e) [
           | inl h ↦ frames_found s.words t l h.0 q h.1
           | inr e ↦ elim (pick s.words "set" _ _ _ tt e) [
-            | inl h ↦ said (λ p. lines.Step (steps.Set p)) (set t) s.words l (λ p k. set_found s.words t p h.0 q k) h.1
+            | inl h ↦ said (λ p. lines.Order (orders.Marks (Set p))) (set_point t) s.words l (λ p k. set_line t.words p h.0 (set_found t p q k) refl) h.1
             | inr e ↦ elim (pick s.words "measure" _ _ _ tt e) [
-              | inl h ↦ said (λ m. lines.Step (steps.Measure m)) (measured t) s.words l (λ m k. measured_found s.words t m h.0 q k) h.1
+              | inl h ↦ said (λ m. lines.Order (orders.Measure m)) (measured t) s.words l (λ m k. measured_found s.words t m h.0 q k) h.1
               | inr e ↦ elim (pick s.words "cover" _ _ _ tt e) [
-                | inl h ↦ said (step steps.Ask) (cover t) s.words l (λ a k. cover_found s.words t a h.0 q k) h.1
+                | inl h ↦ said (or_no_move orders.Cover) (cover t) s.words l (λ a k. cover_found s.words t a h.0 q k) h.1
                 | inr e ↦ absurd cc
               ]
             ]

@@ -9,18 +9,21 @@ use Rattle.plane.specs.declared.affine.Affine.{Affine}
 use Rattle.layers.specs.declared.fault.MoveFault.{MoveFault}
 use Rattle.marks.specs.declared.mark.Mark.{Mark}
 use Rattle.sheets.specs.declared.order.Order.{Order}
-use Rattle.exam.specs.declared.step.Question.{Question}
 use Rattle.orders.specs.declared.kinds.Kind.{Kind}
 use Rattle.orders.specs.declared.kinds.Kind.TheVariants as kinds
 use Rattle.orders.specs.declared.line.Line.{Line}
+use Rattle.orders.specs.declared.order.Question.{Question}
+use Rattle.orders.specs.declared.order.SetPoint.{SetPoint}
+use Rattle.orders.specs.declared.order.SheetOrder.{SheetOrder}
 use Rattle.orders.specs.Words.{Text}
 use Rattle.orders.specs.Covers.{up_to_over, upper, question, cover}
-use Rattle.orders.specs.Grammar.{IsNumber, IsPosition, IsAllowance, EachNumber, Numbers, IsShape, IsFrame, IsBy, as_it_is, moved_by, IsOrder, put_order, shift_order, shift_all_order, lift_order, winding_order, top_order, box_order, draw_order, IsQuestion, ask_winding, ask_box, ask_draw, IsKey, key_within, key_outside, IsEffort, of_ellipse, of_others, Says, page_line, entries_line, places_line, marks_line, frames_line, set_line, measure_line, cover_line}
+use Rattle.orders.specs.Grammar.{IsNumber, IsPosition, IsAllowance, EachNumber, Numbers, IsShape, IsFrame, IsBy, as_it_is, moved_by, IsCall, put_call, shift_call, shift_all_call, lift_call, winding_call, top_call, box_call, draw_call, IsKey, key_within, key_outside, IsSetPoint, IsOrder, call_order, set_order, IsQuestion, ask_winding, ask_box, ask_draw, IsEffort, of_ellipse, of_others, Says, page_line, entries_line, places_line, marks_line, frames_line, set_line, measure_line, cover_line}
 use Rattle.orders.specs.Kinds.{is, kind_of, measured_count, rectangle, shape, mark, frame, effort, measured_as, measured}
-use Rattle.orders.specs.Lines.{size_or, sizes, page, within, key, set, line}
+use Rattle.orders.specs.Lines.{size_or, sizes, page, line}
 use Rattle.orders.specs.Runs.{Left, left, run, first_of, others_of, next, end, number, position, allowance, numbers, made_of, six, two, number_of, position_of, allowance_of, size_of}
-use Rattle.orders.specs.Sheets.{placement, moved, placed, put, shift, shift_all, order, last_position, last_point, last_tolerance}
-use Rattle.orders.specs.Values.{map_of, point_of, count, covering, asked, name, shape_of}
+use Rattle.orders.specs.SetPoints.{within, key, set_point}
+use Rattle.orders.specs.Sheets.{placement, moved, placed, put, shift, shift_all, call, order, last_position, last_point, last_tolerance}
+use Rattle.orders.specs.Values.{map_of, point_of, count, covering, query, name, shape_of}
 
 -- ---- words of a run
 empty_is_none : parse_float binary64 [] ≡ None
@@ -140,23 +143,48 @@ position_ends w n m h = rw (position_is w [] (run 1 (w ∷ [])).miscount n h, en
 six_end : (ns : List Text) (xs : List Float) (m : Text) → Numbers 6 ns xs → six (left ns m) ≡ Ok (map_of xs, left [] m)
 six_end ns xs m h = ap (λ v. six (left v m)) (sym (append-nil ns)) ∙ six_are ns [] xs m h
 
-order_is : {M : Type 0} (reads : Left → Result (M × Left) Text) (IsMark : List Text → M → Type 0) → Marked reads IsMark → (ws : List Text) (m : Text) (o : Result (Order M) MoveFault) → IsOrder IsMark ws o → order reads (left ws m) ≡ Ok o
-unfolding order put shift shift_all
-order_is reads IsMark marked ws m o (put_order ss bs v b e h g f) =
+-- a call's first word, and the others
+call_is : {M : Type 0} (reads : Left → Result (M × Left) Text) (IsMark : List Text → M → Type 0) → Marked reads IsMark → (ws : List Text) (m : Text) (c : Result (Order M) MoveFault) → IsCall IsMark ws c
+    → (is (first_of ws) "set" ≡ false) × (call reads (first_of ws) (left (others_of ws) m) ≡ Ok c)
+unfolding call put shift shift_all
+call_is reads IsMark marked ws m o (put_call ss bs v b e h g f) =
     let a = placed_is reads IsMark marked ss bs [] m v b h g refl in
     let c : placed reads (left (ss ++ bs) m) ≡ Ok (placement v b [], left [] a.0) = ap (λ l. placed reads (left (ss ++ l) m)) (sym (append-nil bs)) ∙ a.1 in
-    rw (e, c) (ap Ok (sym f))
-order_is reads IsMark marked ws m o (shift_order w ns n xs e h g f) =
+    rw e (refl, rw c (ap Ok (sym f)))
+call_is reads IsMark marked ws m o (shift_call w ns n xs e h g f) =
     let miscount : Text = (run 7 (w ∷ ns)).miscount in
-    rw (e, position_is w ns miscount n h, six_end ns xs miscount g, ended miscount) (ap Ok (sym f))
-order_is reads IsMark marked ws m o (shift_all_order ns xs e h f) =
+    rw e (refl, rw (position_is w ns miscount n h, six_end ns xs miscount g, ended miscount) (ap Ok (sym f)))
+call_is reads IsMark marked ws m o (shift_all_call ns xs e h f) =
     let miscount : Text = (run 6 ns).miscount in
-    rw (e, six_end ns xs miscount h, ended miscount) (ap Ok (sym f))
-order_is reads IsMark marked ws m o (lift_order w n e h f) = rw (e, position_ends w n m h) (ap Ok (sym f))
-order_is reads IsMark marked ws m o (winding_order ns xs e h f) = rw (e, point_ends ns xs m h) (ap Ok (sym f))
-order_is reads IsMark marked ws m o (top_order ns xs e h f) = rw (e, point_ends ns xs m h) (ap Ok (sym f))
-order_is reads IsMark marked ws m o (box_order e f) = rw (e, ended (run 0 []).miscount) (ap Ok (sym f))
-order_is reads IsMark marked ws m o (draw_order w t e h f) = rw (e, tolerance_ends w t m h) (ap Ok (sym f))
+    rw e (refl, rw (six_end ns xs miscount h, ended miscount) (ap Ok (sym f)))
+call_is reads IsMark marked ws m o (lift_call w n e h f) = rw e (refl, rw (position_ends w n m h) (ap Ok (sym f)))
+call_is reads IsMark marked ws m o (winding_call ns xs e h f) = rw e (refl, rw (point_ends ns xs m h) (ap Ok (sym f)))
+call_is reads IsMark marked ws m o (top_call ns xs e h f) = rw e (refl, rw (point_ends ns xs m h) (ap Ok (sym f)))
+call_is reads IsMark marked ws m o (box_call e f) = rw e (refl, rw (ended (run 0 []).miscount) (ap Ok (sym f)))
+call_is reads IsMark marked ws m o (draw_call w t e h f) = rw e (refl, rw (tolerance_ends w t m h) (ap Ok (sym f)))
+
+key_is : (ks : List Text) (m : Text) (k : Option ℕ) → IsKey ks k → (t : Left) × (key (left ks m) ≡ Ok (k, t)) × (first_of t.words ≡ [])
+unfolding key within position_of
+key_is ks m k (key_within w n e h f) = by w h e
+  where
+    by : (w : Text) → IsPosition w n → ks ≡ codes "within" ∷ w ∷ [] → (t : Left) × (key (left ks m) ≡ Ok (k, t)) × (first_of t.words ≡ [])
+    by [] h e = absurd cc
+    by (c ∷ cs) h e = (left [] m, rw (e, h) (ap (λ o. Ok (o, left [] m)) (sym f)), refl)
+key_is ks m k (key_outside e f) = (left [] m, rw e (ap (λ o. Ok (o, left [] m)) (sym f)), refl)
+
+set_is : (ps : List Text) (m : Text) (s : SetPoint) → IsSetPoint ps s → set_point (left ps m) ≡ Ok s
+unfolding set_point
+set_is ps m s h =
+    let a = two_are h.places h.after h.values m h.numbers in
+    let b = key_is h.after a.0 s.key h.key in
+    rw (h.words, a.1, b.1, b.2) (ap (λ p. Ok (record { at = p; key = s.key })) (sym h.at))
+
+order_is : {M : Type 0} (reads : Left → Result (M × Left) Text) (IsMark : List Text → M → Type 0) → Marked reads IsMark → (ws : List Text) (m : Text) (o : Result (SheetOrder M) MoveFault) → IsOrder IsMark ws o → order reads (left ws m) ≡ Ok o
+unfolding order
+order_is reads IsMark marked ws m o (call_order c h f) =
+    let k = call_is reads IsMark marked ws m c h in
+    rw (k.0, k.1) (ap Ok (sym f))
+order_is reads IsMark marked ws m o (set_order ps s e h f) = rw (e, set_is ps m s h) (ap Ok (sym f))
 
 -- ---- coverings
 -- a question's first word, and the others
@@ -167,7 +195,7 @@ question_is ws m q (ask_box e f) = rw e (refl, rw (ended (run 0 []).miscount) (a
 question_is ws m q (ask_draw w t e h f) = rw e (refl, rw (tolerance_ends w t m h) (ap Ok (sym f)))
 
 cover_is : (us bs ls cs qs : List Text) (m : Text) (u v : Mark) (b c : Affine) (q : Question) → IsShape us u → IsBy bs b → IsShape ls v → IsBy cs c → IsQuestion qs q
-    → cover (left (us ++ (bs ++ (codes "over" ∷ (ls ++ (cs ++ qs))))) m) ≡ Ok (asked q (covering u b v c))
+    → cover (left (us ++ (bs ++ (codes "over" ∷ (ls ++ (cs ++ qs))))) m) ≡ Ok (query q (covering u b v c))
 unfolding cover upper up_to_over
 cover_is us bs ls cs qs m u v b c q hu hb hv hc hq =
     let x = placed_is mark IsShape mark_is us bs (codes "over" ∷ (ls ++ (cs ++ qs))) m u b hu hb refl in
@@ -176,22 +204,6 @@ cover_is us bs ls cs qs m u v b c q hu hb hv hc hq =
     rw (x.1, y.1, (question_is qs y.0 q hq).1) refl
 
 -- ---- lines
-key_is : (ks : List Text) (m : Text) (k : Option ℕ) → IsKey ks k → (t : Left) × (key (left ks m) ≡ Ok (k, t)) × (first_of t.words ≡ [])
-unfolding key within position_of
-key_is ks m k (key_within w n e h f) = by w h e
-  where
-    by : (w : Text) → IsPosition w n → ks ≡ codes "within" ∷ w ∷ [] → (t : Left) × (key (left ks m) ≡ Ok (k, t)) × (first_of t.words ≡ [])
-    by [] h e = absurd cc
-    by (c ∷ cs) h e = (left [] m, rw (e, h) (ap (λ o. Ok (o, left [] m)) (sym f)), refl)
-key_is ks m k (key_outside e f) = (left [] m, rw e (ap (λ o. Ok (o, left [] m)) (sym f)), refl)
-
-set_is : (ns ks : List Text) (m : Text) (xs : List Float) (k : Option ℕ) → Numbers 2 ns xs → IsKey ks k → set (left (ns ++ ks) m) ≡ Ok (record { at = point_of xs; key = k })
-unfolding set
-set_is ns ks m xs k h g =
-    let a = two_are ns ks xs m h in
-    let b = key_is ks a.0 k g in
-    rw (a.1, b.1, b.2) refl
-
 effort_is : (es : List Text) (k : Kind) (m : Text) (a : Float) (n : ℕ) → IsEffort es k a n → effort k (left es m) ≡ Ok ((a, n), left [] m)
 unfolding effort
 effort_is es k m a n (of_ellipse v w e f h g) = rw (e, f, number_is v (w ∷ []) m a h, allowance_is w [] m n g) refl
@@ -224,6 +236,6 @@ spelled_is_read ws m l (places_line (c ∷ cs) (d ∷ ds) [] n k ne e h g f) = a
 spelled_is_read ws m l (places_line (c ∷ cs) (d ∷ ds) (b ∷ bs) n k ne e h g f) = rw (e, h, g) (ap Ok (sym f))
 spelled_is_read ws m l (marks_line os o e h f) = rw (e, order_is mark IsShape mark_is os m o h) (ap Ok (sym f))
 spelled_is_read ws m l (frames_line os o e h f) = rw (e, order_is frame IsFrame frame_is os m o h) (ap Ok (sym f))
-spelled_is_read ws m l (set_line ns ks xs k e h g f) = rw (e, set_is ns ks m xs k h g) (ap Ok (sym f))
+spelled_is_read ws m l (set_line ps s e h f) = rw (e, set_is ps m s h) (ap Ok (sym f))
 spelled_is_read ws m l (measure_line ns es k xs a n e h g f) = rw (e, measured_is ns es k xs a n m h g) (ap Ok (sym f))
 spelled_is_read ws m l (cover_line us bs ls cs qs u v b c q e hu hb hv hc hq f) = rw (e, cover_is us bs ls cs qs m u v b c q hu hb hv hc hq) (ap Ok (sym f))

@@ -3,11 +3,11 @@ use Rattle.std.specs.Prelude.{if◌then◌else◌, Result, Ok, Err}
 use Rattle.plane.specs.declared.affine.Affine.{Affine}
 use Rattle.layers.specs.declared.fault.MoveFault.{MoveFault}
 use Rattle.marks.specs.declared.mark.Mark.{Mark}
-use Rattle.exam.specs.declared.step.Asked.{Asked}
-use Rattle.exam.specs.declared.step.Question.{Question}
-use Rattle.exam.specs.declared.step.Question.TheVariants.{Winding, BoundingBox, Draw}
+use Rattle.orders.specs.declared.order.CoverQuery.{CoverQuery}
+use Rattle.orders.specs.declared.order.Question.{Question}
+use Rattle.orders.specs.declared.order.Question.TheVariants.{Winding, BoundingBox, Draw}
 use Rattle.orders.specs.Words.{Text}
-use Rattle.orders.specs.Values.{covering, asked}
+use Rattle.orders.specs.Values.{covering, query}
 use Rattle.orders.specs.Reasons.{no_over, no_question}
 use Rattle.orders.specs.Kinds.{is, mark}
 use Rattle.orders.specs.Runs.{◌>>=◌, Left, run, end}
@@ -33,9 +33,9 @@ question w s =
     else (if is w "draw" then (last_tolerance s >>= λ t. Ok (Draw t))
     else Err (no_question w)))
 
-unfoldable pub cover : Left → Result (Result Asked MoveFault) Text
+unfoldable pub cover : Left → Result (Result CoverQuery MoveFault) Text
 cover s = do
   u ← upper s
   l ← placed mark u.1
   q ← question l.0.next l.1
-  Ok (asked q (covering u.0.0 u.0.1 l.0.mark l.0.by))
+  Ok (query q (covering u.0.0 u.0.1 l.0.mark l.0.by))

@@ -5,9 +5,9 @@ use Rattle.plane.specs.declared.rect.Rect.{Rect}
 use Rattle.plane.specs.Affines.{nought}
 use Rattle.marks.specs.declared.mark.Mark.{Mark}
 use Rattle.marks.specs.declared.mark.Mark.TheVariants as marks
-use Rattle.exam.specs.declared.step.Measured.{Measured}
 use Rattle.orders.specs.declared.kinds.Kind.{Kind}
 use Rattle.orders.specs.declared.kinds.Kind.TheVariants as kinds
+use Rattle.orders.specs.declared.order.Measured.{Measured}
 use Rattle.orders.specs.Words.{Text}
 use Rattle.orders.specs.Reasons.{no_shape}
 use Rattle.orders.specs.Runs.{◌>>=◌, Left, run, word, after, end, number, allowance, made_of}

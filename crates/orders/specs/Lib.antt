@@ -1,10 +1,13 @@
 pub mod Covers
+pub mod Escapes
 pub mod Grammar
+pub mod Intents
 pub mod Kinds
 pub mod Lines
 pub mod Moved
 pub mod Reasons
 pub mod Runs
+pub mod SetPoints
 pub mod Sheets
 pub mod Values
 pub mod Views

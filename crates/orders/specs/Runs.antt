@@ -36,6 +36,9 @@ abbrev pub others_of : List Text → List Text
 others_of [] = []
 others_of (w ∷ ws) = ws
 
+abbrev pub second_of : List Text → Text
+second_of ws = first_of (others_of ws)
+
 -- the next word, and what is left after it
 abbrev pub word : Left → Text
 word s = first_of s.words

@@ -6,11 +6,14 @@ use Rattle.layers.specs.declared.fault.MoveFault.{MoveFault}
 use Rattle.layers.specs.Moves.{unmoved}
 use Rattle.sheets.specs.declared.order.Order.{Order}
 use Rattle.sheets.specs.declared.order.Order.TheVariants.{Put, Shift, ShiftAll, Lift, Winding, Top, BoundingBox, Draw}
+use Rattle.orders.specs.declared.order.SheetOrder.{SheetOrder}
+use Rattle.orders.specs.declared.order.SheetOrder.TheVariants.{Call, Set}
 use Rattle.orders.specs.Words.{Text}
 use Rattle.orders.specs.Reasons.{no_order}
 use Rattle.orders.specs.Kinds.{is}
 use Rattle.orders.specs.Runs.{◌>>=◌, Left, run, word, after, no_word, end, number, position, six, two}
 use Rattle.orders.specs.Moved.{move_of}
+use Rattle.orders.specs.SetPoints.{set_point}
 use Rattle.orders.specs.Values.{on_ok}
 
 -- ---- a mark and its move
@@ -56,37 +59,44 @@ last_tolerance s = do
   _ ← end t.1
   Ok t.0
 
--- ---- the orders: each is made, or its numbers make no move
-abbrev pub Ordered : Type 0 → Type 0
-Ordered M = Result (Result (Order M) MoveFault) Text
+-- ---- the calls: each is made, or its numbers make no move
+abbrev pub Called : Type 0 → Type 0
+Called M = Result (Result (Order M) MoveFault) Text
 
-unfoldable pub put : {M : Type 0} → (Left → Result (M × Left) Text) → Left → Ordered M
+unfoldable pub put : {M : Type 0} → (Left → Result (M × Left) Text) → Left → Called M
 put reads s = do
   p ← placed reads s
   _ ← no_word p.0.next p.1.miscount
   Ok (on_ok (λ b. Put p.0.mark b) (move_of p.0.by))
 
-unfoldable pub shift : {M : Type 0} → Left → Ordered M
+unfoldable pub shift : {M : Type 0} → Left → Called M
 shift s = do
   n ← position (run 7 s.words)
   b ← six n.1
   _ ← end b.1
   Ok (on_ok (λ m. Shift n.0 m) (move_of b.0))
 
-unfoldable pub shift_all : {M : Type 0} → Left → Ordered M
+unfoldable pub shift_all : {M : Type 0} → Left → Called M
 shift_all s = do
   b ← six (run 6 s.words)
   _ ← end b.1
   Ok (on_ok (λ m. ShiftAll m) (move_of b.0))
 
-unfoldable pub order : {M : Type 0} → (Left → Result (M × Left) Text) → Left → Ordered M
+-- by the word that names it
+unfoldable pub call : {M : Type 0} → (Left → Result (M × Left) Text) → Text → Left → Called M
+call reads w s =
+    if is w "put" then put reads s
+    else (if is w "shift" then shift s
+    else (if is w "shift_all" then shift_all s
+    else (if is w "lift" then (last_position s >>= λ n. Ok (Ok (Lift n)))
+    else (if is w "winding" then (last_point s >>= λ p. Ok (Ok (Winding p)))
+    else (if is w "top" then (last_point s >>= λ p. Ok (Ok (Top p)))
+    else (if is w "bounding_box" then (end (run 0 s.words) >>= λ _. Ok (Ok BoundingBox))
+    else (if is w "draw" then (last_tolerance s >>= λ t. Ok (Ok (Draw t)))
+    else Err (no_order w))))))))
+
+-- ---- the orders: a set point, or a call
+unfoldable pub order : {M : Type 0} → (Left → Result (M × Left) Text) → Left → Result (Result (SheetOrder M) MoveFault) Text
 order reads s =
-    if is (word s) "put" then put reads (after s)
-    else (if is (word s) "shift" then shift (after s)
-    else (if is (word s) "shift_all" then shift_all (after s)
-    else (if is (word s) "lift" then (last_position (after s) >>= λ n. Ok (Ok (Lift n)))
-    else (if is (word s) "winding" then (last_point (after s) >>= λ p. Ok (Ok (Winding p)))
-    else (if is (word s) "top" then (last_point (after s) >>= λ p. Ok (Ok (Top p)))
-    else (if is (word s) "bounding_box" then (end (run 0 (after s).words) >>= λ _. Ok (Ok BoundingBox))
-    else (if is (word s) "draw" then (last_tolerance (after s) >>= λ t. Ok (Ok (Draw t)))
-    else Err (no_order (word s)))))))))
+    if is (word s) "set" then (set_point (after s) >>= λ p. Ok (Ok (Set p)))
+    else (call reads (word s) (after s) >>= λ c. Ok (on_ok Call c))

@@ -24,14 +24,14 @@ use Rattle.marks.specs.declared.mark.Mark.{Mark}
 use Rattle.marks.specs.declared.mark.Mark.TheVariants as marks
 use Rattle.pieces.specs.declared.piece.Piece.{Piece}
 use Rattle.pieces.specs.Pieces.{covered}
-use Rattle.exam.specs.declared.step.Asked.{Asked}
-use Rattle.exam.specs.declared.step.Question.{Question}
-use Rattle.exam.specs.declared.step.Step.{Step}
-use Rattle.exam.specs.declared.step.Step.TheVariants as steps
 use Rattle.orders.specs.declared.kinds.Kind.{Kind}
 use Rattle.orders.specs.declared.kinds.Kind.TheVariants as kinds
 use Rattle.orders.specs.declared.line.Line.{Line}
 use Rattle.orders.specs.declared.line.Line.TheVariants as lines
+use Rattle.orders.specs.declared.order.CoverQuery.{CoverQuery}
+use Rattle.orders.specs.declared.order.PageOrder.{PageOrder}
+use Rattle.orders.specs.declared.order.PageOrder.TheVariants.{NoMove}
+use Rattle.orders.specs.declared.order.Question.{Question}
 use Rattle.orders.specs.Words.{Text}
 
 -- ---- whole numbers
@@ -123,10 +123,10 @@ unfoldable pub covering : Mark → Affine → Mark → Affine → Result Piece M
 covering u m l n = over_unless (refusal m) (refusal n) (covered (placing u m) (placing l n))
 
 -- the question about it
-abbrev pub asked : Question → Result Piece MoveFault → Result Asked MoveFault
-asked q r = on_ok (λ p. record { piece = p; question = q }) r
+abbrev pub query : Question → Result Piece MoveFault → Result CoverQuery MoveFault
+query q r = on_ok (λ p. record { piece = p; question = q }) r
 
--- a step, or that the numbers of a move make none
-abbrev pub step : {A : Type 0} → (A → Step) → Result A MoveFault → Line
-step f (Ok x) = lines.Step (f x)
-step f (Err e) = lines.Step (steps.NoMove e)
+-- the order that was made, or that the numbers of a move make none
+abbrev pub or_no_move : {A : Type 0} → (A → PageOrder) → Result A MoveFault → Line
+or_no_move f (Ok x) = lines.Order (f x)
+or_no_move f (Err e) = lines.Order (NoMove e)

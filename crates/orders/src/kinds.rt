@@ -8,10 +8,10 @@ ghost use Rattle.orders.specs.Kinds.{mark as a_mark};
 ghost use Rattle.orders.specs.Kinds.{frame as a_frame};
 ghost use Rattle.orders.specs.Views.{left_of, Reads, Answers};
 
+use super::order::Measured;
 use super::unreadable::Unreadable;
 use super::words::Words;
 use ellipses::ellipse::Ellipse;
-use exam::step::Measured;
 use marks::mark::Mark;
 use plane::point::Point;
 use plane::rect::Rect;

@@ -1,9 +1,12 @@
-//! The orders of a sitting: how its lines are read.
+//! The orders of a sitting as text, and how they are read.
 #![tactic(auto)]
 
+pub mod escaped;
 mod kinds;
 pub mod line;
+pub mod order;
 mod piece;
+mod set_point;
 mod sheet;
 #[cfg(test)]
 mod tests;

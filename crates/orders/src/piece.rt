@@ -5,10 +5,10 @@ ghost use Rattle.orders.specs.Values.{covering};
 ghost use Rattle.orders.specs.Covers.{upper as upper_shape};
 ghost use Rattle.orders.specs.Views.{left_of, Reads, Answers};
 
+use super::order::{CoverQuery, Question};
 use super::sheet::{Placed, read_nothing, read_placed, read_point, read_tolerance};
 use super::unreadable::Unreadable;
 use super::words::Words;
-use exam::step::{Asked, Question};
 use layers::fault::MoveFault;
 use layers::moves::Move;
 use layers::placing::Placing;
@@ -21,13 +21,13 @@ use plane::affine::Affine;
 #[tactic(auto, unfolding(crate::specs::Covers::cover))]
 pub(crate) fn read_cover<'a>(
     words: &mut Words<'a>,
-) -> Result<Result<Asked, MoveFault>, Unreadable<'a>>
+) -> Result<Result<CoverQuery, MoveFault>, Unreadable<'a>>
     ensures { Answers (λ a. a) result (cover (left_of words.old)) }
 {
     let (upper, upper_by) = read_upper(words)?;
     let Placed { mark, by, next } = read_placed(words)?;
     let question = read_question(next, words)?;
-    Ok(cover(upper, upper_by, mark, by).map(|piece| Asked { piece, question }))
+    Ok(cover(upper, upper_by, mark, by).map(|piece| CoverQuery { piece, question }))
 }
 
 // The upper shape with the numbers of its move, up to `over`.

@@ -1,11 +1,13 @@
 //! The orders to a sheet, of marks or of frames.
 ghost use Rattle.std.specs.Prelude.{◌≡◌};
 ghost use Rattle.orders.specs.Runs.{run, end};
-ghost use Rattle.orders.specs.Sheets.{order, put, shift, shift_all, last_position, last_point, last_tolerance, placed, moved};
+ghost use Rattle.orders.specs.Sheets.{order, call, put, shift, shift_all, last_position, last_point, last_tolerance, placed, moved};
 ghost use Rattle.orders.specs.Moved.{move_of};
 ghost use Rattle.orders.specs.Views.{left_of, Reads, Answers, placement_of};
 
 use super::kinds::Named;
+use super::order::SheetOrder;
+use super::set_point::read_set;
 use super::unreadable::Unreadable;
 use super::words::Words;
 use layers::fault::MoveFault;
@@ -14,14 +16,28 @@ use plane::affine::Affine;
 use plane::point::Point;
 use sheets::order::Order;
 
-// An order to a sheet, or why its numbers make no move.
+// A set point or a call, or why the numbers of the call make no move.
 #[tactic(auto, using(crate::proofs::Others::other), unfolding(crate::specs::Sheets::order))]
 pub(crate) fn read_order<'a, M: Named>(
     words: &mut Words<'a>,
-) -> Result<Result<Order<M>, MoveFault>, Unreadable<'a>>
+) -> Result<Result<SheetOrder<M>, MoveFault>, Unreadable<'a>>
     ensures { Answers (λ o. o) result (order M.reads (left_of words.old)) }
 {
     match words.word() {
+        "set" => Ok(Ok(SheetOrder::Set(read_set(words)?))),
+        word => Ok(read_call(word, words)?.map(SheetOrder::Call)),
+    }
+}
+
+// A call, by the word that names it and those after it.
+#[tactic(auto, using(crate::proofs::Others::other), unfolding(crate::specs::Sheets::call))]
+fn read_call<'a, M: Named>(
+    word: &'a str,
+    words: &mut Words<'a>,
+) -> Result<Result<Order<M>, MoveFault>, Unreadable<'a>>
+    ensures { Answers (λ o. o) result (call M.reads word.now (left_of words.old)) }
+{
+    match word {
         "put" => read_put(words),
         "shift" => read_shift(words),
         "shift_all" => read_shift_all(words),
@@ -33,7 +49,7 @@ pub(crate) fn read_order<'a, M: Named>(
             Ok(Ok(Order::BoundingBox))
         }
         "draw" => Ok(Ok(Order::Draw(read_tolerance(words)?))),
-        word => Err(Unreadable::NoOrder(word)),
+        _ => Err(Unreadable::NoOrder(word)),
     }
 }
 

@@ -1,8 +1,9 @@
 //! Lines and what they order, worked out from the grammar by hand.
-use super::line::{Line, order_in, read};
-use super::unreadable::Unreadable;
+use super::escaped::Escaped;
+use super::line::{Line, intent, order_in, page_name, read};
+use super::order::{CoverQuery, PageOrder, Question, SetPoint, SheetOrder, Sizes};
+use super::unreadable::{Intent, Unreadable};
 use ellipses::ellipse::Ellipse;
-use exam::step::{Asked, Question, SetPoint, Sizes, Step};
 use layers::fault::MoveFault;
 use marks::mark::Mark;
 use pieces::piece::Piece;
@@ -38,12 +39,17 @@ const QUARTER: Affine = Affine {
 };
 
 // Lines that are no orders, and why.
-const WHYS: [(&str, &str); 65] = [
+const WHYS: [(&str, &str); 67] = [
     ("", "'' is no order"),
     ("rect 0 0 1 1", "'rect' is no order"),
     ("Marks lift 0", "'Marks' is no order"),
+    (
+        "\u{1b}[1mmarks\u{9f} lift 0",
+        "'\\u{1b}[1mmarks\\u{9f}' is no order",
+    ),
     ("marks", "'' is no order"),
-    ("marks set 1 2 outside", "'set' is no order"),
+    ("marks set 1", "2 numbers wanted, 1 there"),
+    ("frames set 1 2", "a key is 'within POSITION' or 'outside'"),
     ("frames measure", "'measure' is no order"),
     ("marks put", "'' is no shape"),
     ("marks put by", "'by' is no shape"),
@@ -85,14 +91,14 @@ const WHYS: [(&str, &str); 65] = [
         "frames shift_all 1 0 0 1 0 0 0",
         "6 numbers wanted, 7 there",
     ),
-    ("marks lift", "1 numbers wanted, 0 there"),
-    ("marks lift 0 1", "1 numbers wanted, 2 there"),
+    ("marks lift", "1 number wanted, 0 there"),
+    ("marks lift 0 1", "1 number wanted, 2 there"),
     ("marks lift 0.5", "'0.5' is no position"),
     ("marks winding 1", "2 numbers wanted, 1 there"),
     ("marks top 1 2 3 4", "2 numbers wanted, 4 there"),
     ("marks bounding_box 1 2", "0 numbers wanted, 2 there"),
-    ("marks draw", "1 numbers wanted, 0 there"),
-    ("marks draw 1 2", "1 numbers wanted, 2 there"),
+    ("marks draw", "1 number wanted, 0 there"),
+    ("marks draw 1 2", "1 number wanted, 2 there"),
     ("set 1", "2 numbers wanted, 1 there"),
     ("set x", "'x' is no number"),
     ("set 1 outside", "'outside' is no number"),
@@ -159,9 +165,9 @@ fn said<T: Drop>(alloc: Global, read: Result<T, Unreadable<'_>>) -> Result<Strin
     Ok(format!(in alloc; "{why}")?)
 }
 
-fn step(line: &str) -> Result<Step, Fail> {
+fn ordered(line: &str) -> Result<PageOrder, Fail> {
     match read(line).ok().ok_or("it is not read")? {
-        Line::Step(step) => Ok(step),
+        Line::Order(order) => Ok(order),
         Line::Page(_) => Err(Fail::new("it is a page")),
     }
 }
@@ -177,7 +183,11 @@ fn what_stands_before_the_comment(rt: HostRuntime) -> Result<(), Fail> {
         let order = order_in(line.as_bytes()).ok().ok_or("it is text")?;
         assert!(rt; order == expected, "{line}");
     }
-    assert!(rt; said(rt.alloc(), order_in(b"set \xff"))?.as_str() == "not UTF-8 text");
+    let latin_1 = order_in(b"set 1 2 outside # caf\xe9")
+        .ok()
+        .ok_or("its comment is none of it")?;
+    assert!(rt; latin_1 == "set 1 2 outside");
+    assert!(rt; said(rt.alloc(), order_in(b"set \xff # 1"))?.as_str() == "not UTF-8 text");
     Ok(())
 }
 
@@ -204,16 +214,59 @@ fn pages(rt: HostRuntime) {
     assert_page(&rt, "page 1 131072 +1048576", 131_072, 1_048_576);
 }
 
+#[test]
+fn names_of_pages(rt: HostRuntime) {
+    assert!(rt; page_name("page  \u{dc}bung\t7 8") == "\u{dc}bung");
+    assert!(rt; page_name("page") == "");
+}
+
+#[test]
+fn what_was_meant(rt: HostRuntime) {
+    for (line, meant) in [
+        (b" page # A".as_slice(), Intent::Page),
+        (b"set 1", Intent::Question),
+        (b"measure", Intent::Question),
+        (b"cover\xff", Intent::Question),
+        (b"frames top 1", Intent::Question),
+        (b"marks set 1 2", Intent::Question),
+        (b"marks put rect", Intent::Change),
+        (b"marks", Intent::Change),
+        (b"marks # top", Intent::Change),
+        (b"frames \xfftop", Intent::Change),
+        (b"Page A", Intent::Change),
+        (b"", Intent::Change),
+    ] {
+        assert!(rt; intent(line) == meant, "{line:?}");
+    }
+}
+
+#[test]
+fn control_characters_are_escaped(rt: HostRuntime) -> Result<(), Fail> {
+    let echoed = format!(in rt.alloc();
+        "{}",
+        Escaped("\ta \u{0}\u{1f}\u{7f}\u{9f}\u{a0}\u{e9}\\")
+    )?;
+    assert!(rt; echoed.as_str() == "\\ta \\u{0}\\u{1f}\\u{7f}\\u{9f}\u{a0}\u{e9}\\");
+    Ok(())
+}
+
+fn call<M: Copy>(order: SheetOrder<M>) -> Result<Order<M>, Fail> {
+    match order {
+        SheetOrder::Call(order) => Ok(order),
+        SheetOrder::Set(_) => Err(Fail::new("it sets a point")),
+    }
+}
+
 fn marks(line: &str) -> Result<Order<Mark>, Fail> {
-    match step(line)? {
-        Step::Marks(order) => Ok(order),
+    match ordered(line)? {
+        PageOrder::Marks(order) => call(order),
         _ => Err(Fail::new("it is no order to the marks")),
     }
 }
 
 fn frames(line: &str) -> Result<Order<Rect>, Fail> {
-    match step(line)? {
-        Step::Frames(order) => Ok(order),
+    match ordered(line)? {
+        PageOrder::Frames(order) => call(order),
         _ => Err(Fail::new("it is no order to the frames")),
     }
 }
@@ -308,16 +361,25 @@ fn frames_are_ordered(rt: HostRuntime) -> Result<(), Fail> {
     Ok(())
 }
 
-fn set(line: &str) -> Result<SetPoint, Fail> {
-    match step(line)? {
-        Step::Set(point) => Ok(point),
+fn set_point<M: Copy>(order: SheetOrder<M>) -> Result<SetPoint, Fail> {
+    match order {
+        SheetOrder::Set(point) => Ok(point),
+        SheetOrder::Call(_) => Err(Fail::new("it is a call")),
+    }
+}
+
+// A set point, and whether it lies on the marks.
+fn set(line: &str) -> Result<(bool, SetPoint), Fail> {
+    match ordered(line)? {
+        PageOrder::Marks(order) => Ok((true, set_point(order)?)),
+        PageOrder::Frames(order) => Ok((false, set_point(order)?)),
         _ => Err(Fail::new("it sets no point")),
     }
 }
 
-fn asked(line: &str) -> Result<Asked, Fail> {
-    match step(line)? {
-        Step::Ask(asked) => Ok(asked),
+fn asked(line: &str) -> Result<CoverQuery, Fail> {
+    match ordered(line)? {
+        PageOrder::Cover(query) => Ok(query),
         _ => Err(Fail::new("it asks nothing")),
     }
 }
@@ -325,20 +387,25 @@ fn asked(line: &str) -> Result<Asked, Fail> {
 #[test]
 fn points_and_measures(rt: HostRuntime) -> Result<(), Fail> {
     let pt = Point::new(1.0, 2.0);
-    let within = set("set 1 2 within 3")?;
-    assert!(rt; within.at == pt);
-    assert!(rt; within.key == Some(3));
-    let outside = set("set 1 2 outside")?;
-    assert!(rt; outside.at == pt);
-    assert!(rt; outside.key == None);
+    for (line, on_marks, key) in [
+        ("set 1 2 within 3", true, Some(3)),
+        ("set 1 2 outside", true, None),
+        ("marks set 1 2 within 0", true, Some(0)),
+        ("frames set 1 2 within 4", false, Some(4)),
+    ] {
+        let (marks, point) = set(line)?;
+        assert!(rt; marks == on_marks, "{line}");
+        assert!(rt; point.at == pt, "{line}");
+        assert!(rt; point.key == key, "{line}");
+    }
     let circle = Mark::Circle(Circle::new(pt, 3.0));
     let ellipse = Mark::Ellipse(Ellipse::new(pt, Vec2::new(3.0, 4.0), 5.0));
-    match step("measure circle 1 2 3")? {
-        Step::Measure(m) => assert!(rt; m.mark == circle),
+    match ordered("measure circle 1 2 3")? {
+        PageOrder::Measure(m) => assert!(rt; m.mark == circle),
         _ => assert!(rt; false),
     }
-    match step("measure ellipse 1 2 3 4 5 0.25 64")? {
-        Step::Measure(m) => {
+    match ordered("measure ellipse 1 2 3 4 5 0.25 64")? {
+        PageOrder::Measure(m) => {
             assert!(rt; m.mark == ellipse);
             assert!(rt; m.accuracy == 0.25);
             assert!(rt; m.allowance == 64);
@@ -392,8 +459,8 @@ fn numbers_that_make_no_move(rt: HostRuntime) -> Result<(), Fail> {
             MoveFault::OffGrid,
         ),
     ] {
-        match step(line)? {
-            Step::NoMove(fault) => assert!(rt; fault == expected, "{line}"),
+        match ordered(line)? {
+            PageOrder::NoMove(fault) => assert!(rt; fault == expected, "{line}"),
             _ => assert!(rt; false, "{line}"),
         }
     }

@@ -1,2 +1,3 @@
-pub mod Countings
-pub mod Transcripts
+mod Taken
+mod Moments
+mod Transcripts

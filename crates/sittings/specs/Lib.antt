@@ -1,6 +1,6 @@
 pub mod Tallies
-pub mod Notes
-pub mod States
-pub mod Lines
+pub mod Progresses
+pub mod Courses
+pub mod Moments
 pub mod Transcripts
-pub mod Turns
+pub mod Files

@@ -1,7 +1,8 @@
-//! A sitting as text: its lines are read, each page is carried out once it is complete, and every order is answered on a
-//! line of its own.
+//! A sitting as text: its lines are read one by one, and each order is carried out and answered at once.
 #![tactic(auto)]
 
+pub mod files;
+mod progress;
 pub mod sitting;
-pub mod tally;
-pub mod transcript;
+mod tally;
+mod transcript;
