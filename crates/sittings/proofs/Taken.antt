@@ -11,7 +11,7 @@ use Rattle.lines.proofs.Runs.{Begins, begins, begins_more, first_lines, all_line
 use Rattle.orders.specs.Words.{Text}
 use Rattle.sittings.specs.declared.files.Taken.{Taken}
 use Rattle.sittings.specs.declared.sitting.Sitting.{Sitting}
-use Rattle.sittings.specs.Files.{all_read, but_last, InputsSay, TakesLine, of_file, of_files, GoesOn, TakesLines, TakesFiles}
+use Rattle.sittings.specs.Files.{all_read, but_last, InputsSay, TakesLine, of_file, of_files, files_read, GoesOn, TakesLines, TakesFiles}
 use Rattle.sittings.specs.Moments.{SittingAfter}
 use Rattle.sittings.specs.Courses.{Course, Input, next_line, file_end, course, course_from, after_input, with_line}
 use Rattle.sittings.specs.Transcripts.{Written, LineSays, end_text, fault_in}
@@ -159,21 +159,39 @@ pub read_before : (past : List Input) (taken : List Text) (line : Text) (known l
 read_before past taken line known left strict read it old new S reads s = ap (all_read (course past)) (but_last_push taken line) ∙ sym S.is_read ∙ reads s
 
 -- ---- files
-pub one_file : (past : List Input) (lines : List Text) (it : Sitting) (old new : Option Text) → GoesOn past (of_file lines) it old new → GoesOn past (of_files (lines ∷ [])) it old new
-one_file past lines it old new G = subst (λ (is : List Input). GoesOn past is it old new) (sym (append-nil (of_file lines))) G
+read_both : (s : Course) (files more : List (List Text)) → files_read s (files ++ more) ≡ files_read s files && files_read (course_from s (of_files files)) more
+read_both s [] more = refl
+read_both s (f ∷ fs) more =
+    ap (λ (b : Bool). all_read s f && b) (read_both (course_from s (of_file f)) fs more)
+    ∙ and_after (all_read s f) (files_read (course_from s (of_file f)) fs) _
+    ∙ ap (λ (m : Course). (all_read s f && files_read (course_from s (of_file f)) fs) && files_read m more) (sym (from_both s (of_file f) (of_files fs)))
+
+pub one_file : (past : List Input) (lines : List Text) (whole read : Bool) (it : Sitting) (old new : Option Text) → GoesOn past (of_file lines) it old new → read ≡ all_read (course past) lines
+    → TakesFiles past 1 (whole && read) (lines ∷ []) it old new
+one_file past lines whole read it old new G e = record {
+  lines = subst (λ (is : List Input). GoesOn past is it old new) (sym (append-nil (of_file lines))) G;
+  few = (omega arith);
+  all = λ h. refl;
+  is_read = λ h. and_true (all_read (course past) lines) ∙ sym e ∙ both_true whole read h;
+}
 
 pub none_opened : (past : List Input) (count : ℕ) (it : Sitting) (old new : Option Text) → SittingAfter past it → Keeps old new → TakesFiles past count false [] it old new
-none_opened past count it old new h quiet = record { lines = kept past [] it it old old new (stays past it old h) refl quiet; few = (omega arith); all = λ e. absurd (let f : false ≡ true = e in cc) }
+none_opened past count it old new h quiet = record {
+  lines = kept past [] it it old old new (stays past it old h) refl quiet;
+  few = (omega arith);
+  all = λ e. absurd (let f : false ≡ true = e in cc);
+  is_read = λ e. refl;
+}
 
 pub no_files_yet : (past : List Input) (it : Sitting) (old : Option Text) → SittingAfter past it → TakesFiles past 0 true [] it old old
-no_files_yet past it old h = record { lines = stays past it old h; few = (omega arith); all = λ e. refl }
+no_files_yet past it old h = record { lines = stays past it old h; few = (omega arith); all = λ e. refl; is_read = λ e. refl }
 
 -- a strict sitting that ended before the last file
 pub some_left : (past : List Input) (i count : ℕ) (read : Bool) (files : List (List Text)) (it : Sitting) (old new : Option Text) → i ≤ count → read ≡ false → TakesFiles past i read files it old new
     → TakesFiles past count read files it old new
 some_left past i count read files it old new h r F =
     let few = F.few in
-    record { lines = F.lines; few = (omega arith); all = λ e. absurd (let f : false ≡ true = sym r ∙ e in cc) }
+    record { lines = F.lines; few = (omega arith); all = λ e. absurd (let f : false ≡ true = sym r ∙ e in cc); is_read = F.is_read }
 
 pub files_more : (past : List Input) (i j : ℕ) (read r : Bool) (files more : List (List Text)) (it now : Sitting) (old mid new : Option Text) → TakesFiles past i read files it old mid
     → TakesFiles (past ++ of_files files) j r more now mid new → TakesFiles past (i + j) (read && r) (files ++ more) now old new
@@ -181,8 +199,11 @@ files_more past i j read r files more it now old mid new F G =
     let l = length-append files more in
     let few = F.few in
     let fewer = G.few in
+    let then : r ≡ true → files_read (course_from (course past) (of_files files)) more ≡ true
+    = λ e. ap (λ (s : Course). files_read s more) (sym (course_both past (of_files files))) ∙ G.is_read e in
     record {
       lines = subst (λ (is : List Input). GoesOn past is now old new) (sym (flat_map-append of_file files more)) (goes_on past (of_files files) (of_files more) it now old mid new F.lines G.lines);
       few = (omega arith);
       all = λ e. l ∙ (λ k. F.all (first_true read r e) k + G.all (both_true read r e) k);
+      is_read = λ e. read_both (course past) files more ∙ (λ k. F.is_read (first_true read r e) k && then (both_true read r e) k);
     }

@@ -9,7 +9,7 @@ use Rattle.orders.specs.Words.{Text}
 use Rattle.sittings.specs.declared.files.Taken.{Taken}
 use Rattle.sittings.specs.declared.sitting.Sitting.{Sitting}
 use Rattle.sittings.specs.Moments.{SittingAfter}
-use Rattle.sittings.specs.Courses.{Course, Input, next_line, file_end, fresh, course, with_line, at_file_end}
+use Rattle.sittings.specs.Courses.{Course, Input, next_line, file_end, fresh, course, course_from, with_line, at_file_end}
 use Rattle.sittings.specs.Transcripts.{Written, LineSays, end_text, finish_text, fault_in}
 
 -- each of these lines can be read
@@ -70,8 +70,14 @@ pub record TakesLines (past : List Input) (taken : List Text) (known : Option Te
   pub first : IfSome known (λ bs. FirstLinesOf bs taken)
   pub all : is_none t.broken ≡ true → (strict ≡ false) ⊎ (t.all_read ≡ true) → IfSome known (λ bs. LinesOf bs taken)
 
--- Of so many files these were taken, each with its end; all of them where each line was read.
+-- each line of these files can be read
+abbrev pub files_read : Course → List (List Text) → Bool
+files_read s [] = true
+files_read s (f ∷ fs) = all_read s f && files_read (course_from s (of_file f)) fs
+
+-- Of so many files these were taken, each with its end. It is told that all was read only if all of them were taken, and each line can be read.
 pub record TakesFiles (past : List Input) (count : ℕ) (read : Bool) (files : List (List Text)) (it : Sitting) (old new : Option Text) : Type 0 where
   pub lines : GoesOn past (of_files files) it old new
   pub few : length files ≤ count
   pub all : read ≡ true → length files ≡ count
+  pub is_read : read ≡ true → files_read (course past) files ≡ true

@@ -3,9 +3,9 @@ ghost use Rattle.std.specs.Prelude.{◌≡◌, ◌≤◌, Bool, true, List, leng
 ghost use Rattle.std.specs.Io.KnownBytes.{IsAtEnd, Keeps};
 ghost use Rattle.lines.specs.Readers.{bytes_left};
 ghost use Rattle.orders.specs.Words.{Text};
-ghost use Rattle.sittings.specs.Files.{IsNoLine, TakesLine, TakesLines, TakesFiles, GoesOn, SittingSays, of_files};
+ghost use Rattle.sittings.specs.Files.{IsNoLine, TakesLine, TakesLines, TakesFiles, SittingSays, files_read};
 ghost use Rattle.sittings.specs.Moments.{SittingAfter};
-ghost use Rattle.sittings.specs.Courses.{Input};
+ghost use Rattle.sittings.specs.Courses.{Input, fresh};
 ghost use Rattle.sittings.specs.Transcripts.{Written};
 
 use super::sitting::Sitting;
@@ -34,7 +34,7 @@ where
     R: Files + Input + AllocGlobal,
     // What is written is what a sitting says of files, whose lines no contract can know.
     ensures { IfOk result (λ read. (taken : List (List Text)) × (length taken ≤ length files.now) × (read ≡ true → length taken ≡ length files.now)
-        × Written (SittingSays taken) (W.contents out.old) (W.contents out.new)) }
+        × (read ≡ true → files_read fresh taken ≡ true) × Written (SittingSays taken) (W.contents out.old) (W.contents out.new)) }
 {
     let mut sitting = Sitting::new(rt.alloc());
     let all_read = take_in_turn(&mut sitting, files, strict, rt, out, errors)?;
@@ -107,14 +107,14 @@ fn take_whole<R: Read, W: Write, E: Write>(
     errors: &mut E,
 ) -> io::Result<bool>
     ensures { (past : List Input) → SittingAfter past sitting.old → IfOk result (λ read. (taken : List (List Text))
-        × (length taken ≡ 1) × GoesOn past (of_files taken) sitting.new (W.contents out.old) (W.contents out.new)) }
+        × TakesFiles past 1 read taken sitting.new (W.contents out.old) (W.contents out.new)) }
 {
     let taken = take_lines(sitting, lines, name, strict, out, errors)?;
     let is_whole = tell_broken(name, &taken, out, errors)?;
     sitting.end_file(out)?;
     // The next file may be one that is waited for.
     out.flush()?;
-    Ok(is_whole && taken.all_read)
+    Ok(is_whole & taken.all_read)
 }
 
 // Whether the input was read to its end, or as far as it was to be; else why not is told.

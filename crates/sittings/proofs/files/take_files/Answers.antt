@@ -13,4 +13,4 @@ returns g c =
     let G = all.1.lines in
     let front = G.written.0 in
     let end = finish_text (course (of_files all.0)) in
-    (all.0, all.1.few, all.1.all, (front ++ end, (front, G.written.1, refl), appends_kept _ _ _ (front ++ end) (Appends-trans _ _ _ front end G.written.2 (c.in_ok-finish.ensures.written (of_files all.0) G.stands)) c.in_ok-flush.ensures.bytes))
+    (all.0, all.1.few, all.1.all, all.1.is_read, (front ++ end, (front, G.written.1, refl), appends_kept _ _ _ (front ++ end) (Appends-trans _ _ _ front end G.written.2 (c.in_ok-finish.ensures.written (of_files all.0) G.stands)) c.in_ok-flush.ensures.bytes))
