@@ -31,7 +31,7 @@ name_of Steps = codes "STEPS"
 
 -- the corner that is named, after a blank
 abbrev pub corner_text : ShapeFault → List ℕ
-corner_text (TooFine (Some corner)) = codes " corner " ++ decimal (place_of corner)
+corner_text (TooFine (Some corner)) = codes " corner " ++ decimal corner
 corner_text (TooFine None) = []
 corner_text Tolerance = []
 corner_text NotFinite = []

@@ -41,8 +41,8 @@ impl Corner {
 /// An arc's fault, with the corner of a rounded rectangle that the arc rounds.
 #[derive(Clone, Copy, Debug, PartialEq, Eq)]
 pub struct CornerFault {
-    /// The corner.
-    pub corner: Corner,
+    /// The corner, from 0 to 3 in drawing order: its `number`.
+    pub corner: u8,
     /// What the corner's arc says.
     pub fault: ArcFault,
 }
@@ -56,8 +56,8 @@ pub enum ShapeFault {
     NotFinite,
     /// 3 TOO FINE: the tolerance is too fine for the shape; a rounded rectangle names its first such corner.
     TooFine {
-        /// The corner, where the shape has corners.
-        corner: Option<Corner>,
+        /// The corner, from 0 to 3 in drawing order, where the shape has corners: its `number`.
+        corner: Option<u8>,
     },
     /// 9 STEPS: the allowance of steps is spent before the length is known.
     Steps,
@@ -99,10 +99,7 @@ impl fmt::Display for ShapeFault {
         match self {
             ShapeFault::TooFine {
                 corner: Some(corner),
-            } => {
-                let corner = corner.number();
-                write!(f, "{number} {name} corner {corner}")
-            }
+            } => write!(f, "{number} {name} corner {corner}"),
             _ => write!(f, "{number} {name}"),
         }
     }

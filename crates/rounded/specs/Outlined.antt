@@ -4,6 +4,7 @@ use Rattle.plane.specs.declared.bezpath.PathEl.TheVariants.{LineTo, ClosePath}
 use Rattle.plane.specs.declared.fault.Corner.{Corner}
 use Rattle.plane.specs.declared.fault.Corner.TheVariants.{TopLeft, TopRight, BottomRight, BottomLeft}
 use Rattle.plane.specs.declared.fault.ShapeFault.TheVariants.{TooFine}
+use Rattle.plane.specs.Faults.{place_of}
 use Rattle.plane.specs.Paths.{Drawn, WellDrawn, formed}
 use Rattle.plane.specs.Formed.{checked_well}
 use Rattle.arcs.specs.Arcs.{fine_enough}
@@ -15,7 +16,7 @@ use Rattle.rounded.specs.Outlines.{drawn, path, begun, cornered, all_finite, cor
 cornered_well : (s : RoundedRect) (t : Float) (corner : Corner) (d : Drawn) → WellDrawn d → WellDrawn (cornered s t corner d)
 cornered_well s t corner d h = of (fine_enough (corner_arc s corner) t)
   where
-    of : (b : Bool) → WellDrawn (cond b d (Err (TooFine (Some corner))))
+    of : (b : Bool) → WellDrawn (cond b d (Err (TooFine (Some (place_of corner)))))
     of true = h
     of false = tt
 

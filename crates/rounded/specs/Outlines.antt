@@ -11,6 +11,7 @@ use Rattle.plane.specs.declared.fault.Corner.{Corner}
 use Rattle.plane.specs.declared.fault.Corner.TheVariants.{TopLeft, TopRight, BottomRight, BottomLeft}
 use Rattle.plane.specs.declared.fault.CornerFault.{CornerFault}
 use Rattle.plane.specs.declared.fault.ShapeFault.TheVariants.{TooFine}
+use Rattle.plane.specs.Faults.{place_of}
 use Rattle.plane.specs.Paths.{Drawn, checked}
 use Rattle.plane.specs.Rects.{box, finite_sides}
 use Rattle.plane.specs.Vectors.{point, vec2}
@@ -58,7 +59,7 @@ corner_start s BottomLeft = point (add binary64 s.rect.x0 s.radii.bottom_left) s
 -- a corner's curves, or its fault
 abbrev pub Rounds : RoundedRect → Corner → Float → Result ArcPath CornerFault → Type 0
 Rounds s corner t (Ok k) = T (fine_enough (corner_arc s corner) t) × (k ≡ Arcs.begun (corner_arc s corner) t)
-Rounds s corner t (Err e) = T (not (fine_enough (corner_arc s corner) t)) × (e.corner ≡ corner)
+Rounds s corner t (Err e) = T (not (fine_enough (corner_arc s corner) t)) × (e.corner ≡ place_of corner)
 
 -- ---- the path
 -- a corner's curves
@@ -111,7 +112,7 @@ begun s t = record {
 
 -- TOO FINE at the first corner whose arc is, or what follows
 abbrev pub cornered : RoundedRect → Float → Corner → Drawn → Drawn
-cornered s t corner d = cond (fine_enough (corner_arc s corner) t) d (Err (TooFine (Some corner)))
+cornered s t corner d = cond (fine_enough (corner_arc s corner) t) d (Err (TooFine (Some (place_of corner))))
 
 abbrev pub drawn : RoundedRect → Float → Drawn
 drawn s t = checked t (all_finite s) (cornered s t TopLeft (cornered s t TopRight (cornered s t BottomRight (cornered s t BottomLeft (Ok (path s t))))))

@@ -137,13 +137,16 @@ impl RoundedRect {
         self.rect().is_finite() && self.radii().is_finite()
     }
 
-    // The curves of a corner's arc. A fault names the corner.
+    // The curves of a corner's arc. A fault names the corner by its number.
     fn corner_curves(&self, corner: Corner, tolerance: f64) -> Result<ArcPath, CornerFault>
         ensures { Rounds self.now corner tolerance result }
     {
         self.corner_arc(corner)
             .append_iter(tolerance)
-            .map_err(|fault| CornerFault { corner, fault })
+            .map_err(|fault| CornerFault {
+                corner: corner.number(),
+                fault,
+            })
     }
 
     // The arc that rounds a corner.

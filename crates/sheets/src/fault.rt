@@ -87,10 +87,7 @@ impl fmt::Display for SheetFault {
                 match path.fault {
                     ShapeFault::TooFine {
                         corner: Some(corner),
-                    } => {
-                        let corner = corner.number();
-                        write!(f, "{number} {name} at mark {mark} corner {corner}")
-                    }
+                    } => write!(f, "{number} {name} at mark {mark} corner {corner}"),
                     _ => write!(f, "{number} {name} at mark {mark}"),
                 }
             }
