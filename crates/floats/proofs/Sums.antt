@@ -1,6 +1,6 @@
 -- Sums, differences and products keep the order of their operands, as computed. Assumes nothing.
 use Rattle.std.proofs.Common.{◌≡◌, ℕ, ◌*◌, ◌<◌, ◌≤◌, Bool, true, false, not, T, ℤ, pos, negsuc, ◌+ℤ◌, ◌-ℤ◌, ◌*ℤ◌, ◌≤ℤ◌, sym, refl, ap, ◌∙◌, subst, mul_comm, mul-le-mul, mul-pos, arith}
-use lib.Ieee.{Float, nan, inf, fin, Format, up, down, sum, add, sub, mul, le, is_nan}
+use lib.Ieee.{Float, nan, inf, fin, Format, up, down, sum, add, sub, mul, neg, le, is_nan}
 use lib.Ieee.Fits.{down_pos}
 use lib.Ieee.Scale.{finite}
 use Rattle.std.specs.Float.{float_zero}
@@ -10,7 +10,7 @@ use Rattle.std.proofs.lemmas.Int.{ints}
 use Rattle.floats.specs.Value.{signed, Is}
 use Rattle.floats.proofs.Rounded.{rounds_add, rounds_sub, rounds_mul}
 use Rattle.floats.proofs.Compared.{is_le}
-use Rattle.floats.proofs.Monotone.{rounds_mono, le_inf, inf_le, round_number}
+use Rattle.floats.proofs.Monotone.{rounds_mono, le_inf, inf_le, round_number, neg_le}
 
 -- ---- three finite floats over one denominator
 own_at : (s : Bool) (m : ℕ) (e : ℤ) (q c : ℕ) → c ≡ down e * q → Is (fin s m e) (signed s (m * up e * q)) c
@@ -150,3 +150,14 @@ add_mono_all f x y (inf t) h p q =
     subst (λ (z : Float). T (le z (add f y (inf t)))) (sym (with_inf f x t p))
     (subst (λ (z : Float). T (le (inf t) z)) (sym (with_inf f y t q)) (le_refl (inf t) (unfold is_nan in tt)))
 add_mono_all f x y (fin t n d) h p q = with_fin f x y t n d h p q
+
+pub sub_mono_all : (f : Format) (x y e : Float) → T (le x y) → T (not (is_nan (sub f x e))) → T (not (is_nan (sub f y e))) → T (le (sub f x e) (sub f y e))
+unfolding sub
+sub_mono_all f x y e h p q = add_mono_all f x y (neg e) h p q
+
+pub sub_anti : (f : Format) (x y e : Float) → T (le x y) → T (not (is_nan (sub f e x))) → T (not (is_nan (sub f e y))) → T (le (sub f e y) (sub f e x))
+unfolding sub
+sub_anti f x y e h p q =
+    subst (λ (z : Float). T (le z (add f e (neg x)))) (add_comm f (neg y) e)
+    (subst (λ (z : Float). T (le (add f (neg y) e) z)) (add_comm f (neg x) e)
+    (add_mono_all f (neg y) (neg x) e (neg_le x y h) (subst (λ (z : Float). T (not (is_nan z))) (add_comm f e (neg y)) q) (subst (λ (z : Float). T (not (is_nan z))) (add_comm f e (neg x)) p)))

@@ -6,9 +6,9 @@ use lib.Ieee.{Float, nan, inf, fin, binary64, of_int, up, down, eq}
 use lib.Ieee.Scale.{finite}
 use Rattle.std.specs.Float.{float_with_sign}
 use Rattle.floats.specs.Value.{signed, Is, In}
-use Rattle.floats.specs.Page.{GridNumber, on_grid, up_to}
+use Rattle.floats.specs.Page.{GridNumber, UpTo, on_grid, up_to}
 use Rattle.floats.proofs.Compared.{is_le, is_eq, is_eq_test}
-use Rattle.floats.proofs.Sizes.{abs_is, eq_is, whole_is}
+use Rattle.floats.proofs.Sizes.{abs_is, eq_is, whole_is, up_to_only, up_to_every}
 use Rattle.floats.proofs.Sums.{common}
 use Rattle.floats.proofs.Grids.{whole_float}
 use Rattle.floats.proofs.Stated.{one_numerator}
@@ -41,7 +41,17 @@ on_grid_every (fin s m e) g =
 pub grid_test : (x : Float) (r : Bool) → (T r → GridNumber x) → (GridNumber x → T r) → r ≡ on_grid x
 grid_test x r f g = one_test r (on_grid x) (λ t. on_grid_every x (f t)) (λ t. g (on_grid_only x t))
 
--- ---- the test of the size of a fraction of 256
+-- ---- sizes
+pub up_to_named : (n : ℕ) (x : Float) → n < 2 ^ 53 → T (up_to n x) → UpTo n x
+up_to_named n x h = up_to_only x (of_int binary64 (pos n)) n (whole_float n h)
+
+pub up_to_tested : (n : ℕ) (x : Float) → n < 2 ^ 53 → UpTo n x → T (up_to n x)
+up_to_tested n x h = up_to_every x (of_int binary64 (pos n)) n (whole_float n h)
+
+pub up_to_test : (n : ℕ) (x : Float) (r : Bool) → n < 2 ^ 53 → (T r → UpTo n x) → (UpTo n x → T r) → r ≡ up_to n x
+up_to_test n x r h f g = one_test r (up_to n x) (λ t. up_to_tested n x h (f t)) (λ t. g (up_to_named n x h t))
+
+-- the test of a fraction of 256
 pub up_to_whole : {x : Float} {k : ℤ} {m : ℕ} (n : ℕ) → n < 2 ^ 53 → In x k 8 m → up_to n x ≡ leb (nat_abs k) (n * 256)
 up_to_whole {x} {k} n h v =
     is_le (float_with_sign false x) (of_int binary64 (pos n)) (pos (nat_abs k)) (pos (n * 256)) 256 (omega arith)
