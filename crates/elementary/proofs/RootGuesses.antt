@@ -1,5 +1,5 @@
 -- A table of first roots holds what it should, if one test of its entries passes. Assumes nothing.
-use Rattle.std.proofs.Common.{ℕ, zero, suc, ◌+◌, ◌-◌, ◌*◌, ◌<◌, ◌≤◌, Bool, true, ◌&&◌, T, ltb, leb, List, [], ◌∷◌, length, get_or, subst, arith, ltb→lt, leb→le}
+use Rattle.std.proofs.Common.{◌≡◌, ℕ, zero, suc, ◌+◌, ◌-◌, ◌*◌, ◌/◌, ◌<◌, ◌≤◌, Bool, true, ◌&&◌, T, ltb, leb, List, [], ◌∷◌, length, get_or, ap, subst, arith, ltb→lt, leb→le}
 use lib.Ieee.Fits.{and_l, and_r}
 use Rattle.elementary.specs.Roots.{Guess}
 
@@ -35,3 +35,10 @@ at h (r ∷ rs) t (suc i) l = subst (λ (z : ℕ). Guess z (get_or rs i 0)) (ome
 -- the entry for n, in a table from h on
 pub guess_at : (h n : ℕ) (rs : List ℕ) → T (all_fine h rs) → h ≤ n → n - h < length rs → Guess n (get_or rs (n - h) 0)
 guess_at h n rs t g l = subst (λ (z : ℕ). Guess z (get_or rs (n - h) 0)) (omega arith) (at h rs t (n - h) l)
+
+-- ---- where the guess is one too large for n
+pub less_sum : (r n : ℕ) → Guess (n / 128) r → n < r * r → (1 + r * r ≤ n + 2 * r) × ((r - 1) * (r - 1) + (n + 2 * r - 1 - r * r) ≡ n)
+less_sum r n g h =
+    let e : r ≡ r - 1 + 1 = omega (arith, g.some) in
+    let k : r * r ≡ (r - 1 + 1) * (r - 1 + 1) = ap (λ (z : ℕ). z * z) e in
+    (omega (arith, g.low, k), omega (arith, g.low, k))

@@ -1,6 +1,6 @@
 -- Sixth powers, and the least sixteenth whose sixth power is enough. Assumes nothing.
 use Rattle.std.proofs.Common.{◌≡◌, ℕ, zero, suc, ◌+◌, ◌*◌, ◌^◌, ◌<◌, ◌≤◌, Bool, true, false, cond, not, ◌&&◌, ◌||◌, T, T_not, Less, Equal, Greater, leb, ℤ, pos, sym, refl, ap, ◌∙◌, subst, inl, inr, add-zero, mul-le-mul_right, zero-mul, le_of_mul-le-mul_right, arith, lit<, lit≤, le→leb, leb→le}
-use native.Mathlib.Nat.{pow-le-pow_left, eq_of_mul-eq-mul_right}
+use native.Mathlib.Nat.{pow-succ', pow-zero, pow-le-pow_left, eq_of_mul-eq-mul_right}
 use lib.Dec.{nleb→lt}
 use lib.Signed.{le_z}
 use Rattle.std.proofs.lemmas.Int.{ints}
@@ -27,6 +27,9 @@ use Rattle.elementary.proofs.Numbers.{no_number}
 use Rattle.elementary.proofs.Scaled.{Ceiling, parts, no_parts, times_power, ceil_reads}
 
 -- ---- the sixth power
+pub sixth_is : (k : ℕ) → k * k * k * (k * k * k) ≡ k ^ 6
+sixth_is k = sym (pow-succ' k 5 ∙ ap (λ (z : ℕ). k * z) (pow-succ' k 4 ∙ ap (λ (z : ℕ). k * z) (pow-succ' k 3 ∙ ap (λ (z : ℕ). k * z) (pow-succ' k 2 ∙ ap (λ (z : ℕ). k * z) (pow-succ' k 1 ∙ ap (λ (z : ℕ). k * z) (pow-succ' k 0 ∙ ap (λ (z : ℕ). k * z) (pow-zero k)))))) ∙ omega arith)
+
 pub sixth_mono : (j k : ℕ) → j ≤ k → j ^ 6 ≤ k ^ 6
 sixth_mono j k h = pow-le-pow_left h 6
 
@@ -138,6 +141,14 @@ sixteenth k h = subst (λ (z : ℤ). Val (mul binary64 (of_int binary64 (pos k))
 both_true : (s t : Bool) → T s → T t → T (s && t)
 both_true true t h k = k
 both_true false t h k = h
+
+-- and one that fails
+pub not_first : (s t : Bool) → s ≡ false → T (not (s && t))
+not_first s t e = subst (λ (b : Bool). T (not (b && t))) (sym e) tt
+
+pub not_second : (s t : Bool) → t ≡ false → T (not (s && t))
+not_second true t e = subst (λ (b : Bool). T (not b)) (sym e) tt
+not_second false t e = tt
 
 partial_le_is : (x y : Float) → partial_le float_partial_cmp x y ≡ le x y
 unfolding le
