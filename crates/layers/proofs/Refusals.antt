@@ -21,16 +21,16 @@ denied true true false f e = refl
 denied true false p f e = refl
 denied false g p f e = refl
 
-move_granted : (m : Affine) → refusal m ≡ None → is_move m ≡ true
+pub move_granted : (m : Affine) → refusal m ≡ None → is_move m ≡ true
 move_granted m = granted (is_turn m) (grid_offset m) (page_offset m)
 
-move_denied : (m : Affine) (f : MoveFault) → refusal m ≡ Some f → is_move m ≡ false
+pub move_denied : (m : Affine) (f : MoveFault) → refusal m ≡ Some f → is_move m ≡ false
 move_denied m = denied (is_turn m) (grid_offset m) (page_offset m)
 
-read_granted : (m : Affine) → refusal m ≡ None → read_as m ≡ m
+pub read_granted : (m : Affine) → refusal m ≡ None → read_as m ≡ m
 read_granted m e = ap (λ (b : Bool). cond b m unmoved) (move_granted m e)
 
-read_refused : (m : Affine) (f : MoveFault) → refusal m ≡ Some f → read_as m ≡ unmoved
+pub read_refused : (m : Affine) (f : MoveFault) → refusal m ≡ Some f → read_as m ≡ unmoved
 read_refused m f e = ap (λ (b : Bool). cond b m unmoved) (move_denied m f e)
 
 -- what is granted is read as it stands, and what is refused as unmoved

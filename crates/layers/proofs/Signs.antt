@@ -1,5 +1,5 @@
 -- A sign times a winding, as the machine computes it, and the winding of a placing from its parts. Assumes nothing.
-use Rattle.std.proofs.Common.{◌≡◌, Bool, true, false, cond, ◌&&◌, ℤ, pos, negsuc, ◌*ℤ◌, sym, refl, ap, ◌∙◌, subst, inl, inr, w32, to_z, of_z}
+use Rattle.std.proofs.Common.{◌≡◌, Bool, true, false, cond, ◌&&◌, ℤ, pos, negsuc, ◌*ℤ◌, sym, refl, ap, ◌∙◌, subst, inl, inr, lit<, w32, SFits, to_z, of_z}
 use Rattle.floats.specs.Page.{in_field}
 use Rattle.plane.specs.declared.affine.Affine.{Affine}
 use Rattle.plane.specs.declared.point.Point.{Point}
@@ -20,8 +20,15 @@ each P false w a b c d e f (inl h) = subst (P (pos 1)) (sym h) d
 each P false w a b c d e f (inr (inl h)) = subst (P (pos 1)) (sym h) e
 each P false w a b c d e f (inr (inr h)) = subst (P (pos 1)) (sym h) f
 
+fits_each : (s : Bool) (w : ℤ) → IsWinding w → SFits w32 (machine (cond s (negsuc 0) (pos 1)) w)
+fits_each s w =
+    each (λ k w. SFits w32 (machine k w)) s w (record { sfits = lit< tt }) (record { sfits = lit< tt }) (record { sfits = lit< tt }) (record { sfits = lit< tt }) (record { sfits = lit< tt }) (record { sfits = lit< tt })
+
 times_each : (s : Bool) (w : ℤ) → IsWinding w → to_z w32 (of_z w32 (machine (cond s (negsuc 0) (pos 1)) w)) ≡ cond s (negsuc 0) (pos 1) *ℤ w
 times_each s w = each (λ k w. to_z w32 (of_z w32 (machine k w)) ≡ k *ℤ w) s w refl refl refl refl refl refl
+
+pub sign_fits : {w' : ℤ} (s : Bool) (k w : ℤ) → k ≡ cond s (negsuc 0) (pos 1) → w ≡ w' → IsWinding w' → SFits w32 (machine k w)
+sign_fits {w'} s k w e d h = subst (λ (z : ℤ). SFits w32 (machine z w)) (sym e) (fits_each s w (subst IsWinding (sym d) h))
 
 pub sign_times : {w' : ℤ} (s : Bool) (k w : ℤ) → k ≡ cond s (negsuc 0) (pos 1) → w ≡ w' → IsWinding w' → to_z w32 (of_z w32 (machine k w)) ≡ k *ℤ w
 sign_times {w'} s k w e d h = subst (λ (z : ℤ). to_z w32 (of_z w32 (machine z w)) ≡ z *ℤ w) (sym e) (times_each s w (subst IsWinding (sym d) h))
