@@ -1,22 +1,48 @@
 -- Questions over the entries: what one entry gives, how each loop goes on, and that the answers are the book's. Assumes nothing.
-use Rattle.std.proofs.Common.{◌≡◌, ℕ, suc, ◌+◌, ◌<◌, ◌≤◌, Bool, true, false, cond, List, [], ◌∷◌, ◌++◌, map, length, get_or, take, ℤ, pos, negsuc, ◌+ℤ◌, ◌*ℤ◌, neg_ℤ, ◌≤ℤ◌, Option, Result, sym, refl, ap, ◌∙◌, inl, inr, arith, w32, SFits, to_z, of_z}
+use Rattle.std.proofs.Common.{◌≡◌, ℕ, zero, suc, ◌+◌, ◌<◌, ◌≤◌, Bool, true, false, cond, ◌&&◌, List, [], ◌∷◌, ◌++◌, map, length, get_or, take, ℤ, pos, negsuc, ◌+ℤ◌, ◌*ℤ◌, neg_ℤ, ◌≤ℤ◌, Some, None, Ok, Err, Option, Result, sym, refl, ap, ◌∙◌, subst, inl, inr, arith, w32, SFits, to_z, of_z}
 use lib.IntN.{one, +ℤ_idl, +ℤ_idr, +ℤ_assoc, *ℤ-one}
 use lib.Ieee.{lt}
 use Rattle.std.proofs.lemmas.List.{take_more, map-append}
 use Rattle.std.proofs.lemmas.Int.{ints}
+use Rattle.floats.specs.Page.{on_grid, on_page}
 use Rattle.plane.specs.declared.affine.Affine.{Affine}
 use Rattle.plane.specs.declared.point.Point.{Point}
 use Rattle.plane.specs.declared.rect.Rect.{Rect}
 use Rattle.plane.specs.Affines.{nought, det}
 use Rattle.plane.specs.Rects.{joined}
-use Rattle.plane.specs.Winding.{IsWinding}
+use Rattle.plane.specs.Winding.{IsWinding, nonzero}
 use Rattle.layers.specs.Moves.{read_as, sign, taken_back}
 use Rattle.sheets.specs.declared.fault.SheetFault.{SheetFault}
+use Rattle.sheets.specs.declared.fault.SheetFault.TheVariants.{OffGrid, OffPage}
 use Rattle.sheets.specs.declared.sheet.Entry.{Entry}
 use Rattle.sheets.specs.declared.sheet.Sheet.{Sheet}
 use Rattle.sheets.specs.Book.{Marks, Row, row, at_page_point, gives, total, highest, moved_box, union_from, union_of}
 use Rattle.sheets.specs.Tables.{used, rows, row_of, AnsweredByBook}
 use Rattle.sheets.proofs.Agree.{SameWindings, at_page, total_agree, highest_agree, union_agree}
+
+-- ---- the test of a point
+-- the answer by two tests
+abbrev by_tests : {X : Type 0} → Bool → Bool → X → Result X SheetFault
+by_tests a b x = cond a (cond b (Ok x) (Err (OffPage None))) (Err OffGrid)
+
+module _ {X Y : Type 0} (p : Point) (x : X) (y : Y) where
+  -- where one answer is granted, so is another
+  pub granted_alike : Ok x ≡ at_page_point p x → Ok y ≡ at_page_point p y
+  granted_alike = go (on_grid p.x && on_grid p.y) (on_page p.x && on_page p.y)
+    where
+      go : (a b : Bool) → Ok x ≡ by_tests a b x → Ok y ≡ by_tests a b y
+      go true true e = refl
+      go true false e = absurd (grind arith)
+      go false b e = absurd (grind arith)
+
+  -- and where one is refused, so is another
+  pub refused_alike : (f : SheetFault) → Err f ≡ at_page_point p x → Err f ≡ at_page_point p y
+  refused_alike f = go (on_grid p.x && on_grid p.y) (on_page p.x && on_page p.y)
+    where
+      go : (a b : Bool) → Err f ≡ by_tests a b x → Err f ≡ by_tests a b y
+      go true true e = absurd (grind arith)
+      go true false e = ap Err (let z : f ≡ OffPage None = cc in z)
+      go false b e = ap Err (let z : f ≡ OffGrid = cc in z)
 
 -- ---- one more entry
 pub rows_more : {M : Type 0} (t : List (Entry M)) (i : ℕ) (e : Entry M) → i < length t → e ≡ get_or t i e → map row_of (take (i + 1) t) ≡ map row_of (take i t) ++ (row_of e ∷ [])
@@ -47,6 +73,23 @@ sum_fits n b c d e f C D l = omega (arith, ints)
 
 pub sum_is : {a : ℤ} (n : ℕ) (b c d : ℤ) → a ≡ c → b ≡ d → Within n c → Within 1 d → n ≤ 65536 → to_z w32 (of_z w32 (a +ℤ to_z w32 (of_z w32 b))) ≡ c +ℤ d
 sum_is n b c d e f C D l = omega (arith, ints)
+
+-- the machine's test for 0
+pub told_zero : (z w : ℤ) → z ≡ w → Within 1 w → of_z w32 z ≡ 0 → false ≡ nonzero w
+told_zero z w e h q = go w h (subst (λ (u : ℤ). of_z w32 u ≡ 0) e q)
+  where
+    go : (u : ℤ) → Within 1 u → of_z w32 u ≡ 0 → false ≡ nonzero u
+    go (pos zero) l r = refl
+    go (pos (suc n)) l r = absurd (let w : suc n ≡ 0 = r in omega arith)
+    go (negsuc n) l r = absurd (omega (arith, ints))
+
+pub told_nonzero : (z w : ℤ) → z ≡ w → (of_z w32 z ≡ 0 → ⊥) → true ≡ nonzero w
+told_nonzero z w e h = go w (subst (λ (u : ℤ). of_z w32 u ≡ 0 → ⊥) e h)
+  where
+    go : (u : ℤ) → (of_z w32 u ≡ 0 → ⊥) → true ≡ nonzero u
+    go (pos zero) l = absurd (l refl)
+    go (pos (suc n)) l = refl
+    go (negsuc n) l = refl
 
 times_one : (z : ℤ) → z ≡ z *ℤ pos 1
 unfolding one
@@ -85,6 +128,17 @@ module _ {M : Type 0} (k : Marks M) where
 
   pub union_more : (b : Rect) (es : List (Entry M)) (e : Entry M) → union_from k b (map row_of (es ++ (e ∷ []))) ≡ joined (union_from k b (map row_of es)) (moved_box k (row_of e))
   union_more b es e = ap (union_from k b) (map-append row_of es (e ∷ [])) ∙ from_append b (map row_of es) (row_of e)
+
+  union_append : (b : Rect) (bs : List (Row M)) (r : Row M) → Some b ≡ union_of k bs → Some (joined b (moved_box k r)) ≡ union_of k (bs ++ (r ∷ []))
+  union_append b [] r e = absurd (grind arith)
+  union_append b (d ∷ bs) r e =
+      let z : b ≡ union_from k (moved_box k d) bs = cc in
+      ap Some (ap (λ (c : Rect). joined c (moved_box k r)) z ∙ sym (from_append (moved_box k d) bs r))
+
+  -- and of the union itself, if there is one
+  pub union_of_more : (t : List (Entry M)) (i : ℕ) (e : Entry M) (b : Rect) → i < length t → e ≡ get_or t i e → Some b ≡ union_of k (map row_of (take i t))
+      → Some (joined b (moved_box k (row_of e))) ≡ union_of k (map row_of (take (i + 1) t))
+  union_of_more t i e b h r u = union_append b (map row_of (take i t)) (row_of e) u ∙ ap (union_of k) (sym (rows_more t i e h r))
 
   -- ---- the book
   module _ (s : Sheet) (t : List (Entry M)) where

@@ -1,5 +1,5 @@
 -- What a walk over the entries finds: the highest so far that holds a point. Assumes nothing.
-use Rattle.std.proofs.Common.{◌≡◌, ℕ, ◌+◌, ◌<◌, Bool, true, false, cond, List, [], ◌∷◌, ◌++◌, map, length, get_or, take, Some, None, Option, sym, refl, ap, ◌∙◌, add-one, arith, length-take}
+use Rattle.std.proofs.Common.{◌≡◌, ℕ, ◌+◌, ◌-◌, ◌<◌, ◌≤◌, Bool, true, false, cond, List, [], ◌∷◌, ◌++◌, map, length, get_or, take, Some, Option, sym, refl, ap, ◌∙◌, add-one, arith, length-take}
 use lib.ListN.{length-map}
 use Rattle.plane.specs.declared.point.Point.{Point}
 use Rattle.plane.specs.Winding.{nonzero}
@@ -31,3 +31,11 @@ module _ {M : Type 0} (k : Marks M) (pt : Point) where
       ap (highest k pt) (rows_more es i e h r)
       ∙ highest_push (map row_of (take i es)) (row_of e)
       ∙ (λ j. cond (sym w j) (Some (n j)) (highest k pt (map row_of (take i es))))
+
+  -- the last of the first i entries decides
+  pub highest_below : (t : List (Entry M)) (i : ℕ) (e : Entry M) (b : Bool) → 0 < i → i ≤ length t → e ≡ get_or t (i - 1) e → b ≡ nonzero (gives k pt (row_of e))
+      → cond b (Some (i - 1)) (highest k pt (map row_of (take (i - 1) t))) ≡ highest k pt (map row_of (take i t))
+  highest_below t i e b o h r n =
+      let l : i - 1 < length t = omega arith in
+      let j : i - 1 + 1 ≡ i = omega arith in
+      sym (highest_more t (i - 1) e b l r n) ∙ ap (λ (m : ℕ). highest k pt (map row_of (take m t))) j

@@ -11,3 +11,4 @@ pub mod Asked
 pub mod Folded
 pub mod Found
 pub mod Moments
+pub mod Followed

@@ -1,6 +1,7 @@
 -- Shifts of one mark and of all: their answers over the rows, and what they leave. Assumes nothing.
-use Rattle.std.proofs.Common.{◌≡◌, ℕ, zero, suc, ◌<◌, ◌≤◌, min, Bool, true, false, cond, T, List, [], ◌∷◌, map, length, get_or, take, drop, set, Some, None, Ok, Err, Option, Result, sym, refl, ap, ◌∙◌, subst, arith, length-append, length-drop, length-take}
+use Rattle.std.proofs.Common.{◌≡◌, ℕ, zero, suc, ◌+◌, ◌<◌, ◌≤◌, min, Bool, true, false, cond, T, List, [], ◌∷◌, ◌++◌, map, length, get_or, take, drop, set, Some, None, Ok, Err, Option, Result, sym, refl, ap, ◌∙◌, subst, arith, length-append, length-drop, length-take, drop-set-lt}
 use lib.ListN.{length-map}
+use Rattle.std.proofs.lemmas.List.{take_more, take_more_set, drop_more, drop_all, map-append}
 use lib.Seq.{take-append_seam}
 use Rattle.plane.specs.declared.affine.Affine.{Affine}
 use Rattle.layers.specs.Moves.{is_move}
@@ -70,6 +71,28 @@ module _ {M : Type 0} (m : Affine) where
       (a ∙ sym (shift_agree i i m (used s t) bs S), subst (λ (es : List (Entry M)). AllStand es (shift_rows bs i m)) (sym front) (shift_stand i m (used s t) bs h S))
 
 -- ---- all marks
+-- the lowest that leaves is no lower than those that were passed
+pub leaving_more : {M : Type 0} (m : Affine) (i : ℕ) (es : List (Entry M)) (e : Entry M) → i < length es → e ≡ get_or es i e
+    → leaving i (map row_of (drop i es)) m ≡ cond (stays m (row_of e)) (leaving (i + 1) (map row_of (drop (i + 1) es)) m) (Some i)
+leaving_more {M} m i es e h r = ap (λ (ds : List (Entry M)). leaving i (map row_of ds) m) (drop_more es i e h ∙ ap (λ (d : Entry M). d ∷ drop (i + 1) es) (sym r))
+
+pub leaving_all : {M : Type 0} (m : Affine) (i : ℕ) (es : List (Entry M)) → length es ≤ i → leaving i (map row_of (drop i es)) m ≡ None
+leaving_all {M} m i es h = ap (λ (ds : List (Entry M)). leaving i (map row_of ds) m) (drop_all i es h)
+
+-- one entry more in its place
+pub carry_more : {M : Type 0} (m : Affine) (i : ℕ) (old t : List (Entry M)) (e : Entry M) → i < length old → i < length t → e ≡ get_or t i e
+    → take i t ≡ map (moved_entry m) (take i old) → drop i t ≡ drop i old
+    → (take (i + 1) (set t i (moved_entry m e)) ≡ map (moved_entry m) (take (i + 1) old)) × (drop (i + 1) (set t i (moved_entry m e)) ≡ drop (i + 1) old)
+carry_more {M} m i old t e h l r a b =
+    let n : i < i + 1 = omega arith in
+    let same : drop i old ≡ e ∷ drop (i + 1) t = sym b ∙ drop_more t i e l ∙ ap (λ (d : Entry M). d ∷ drop (i + 1) t) (sym r) in
+    let whole : get_or old i e ∷ drop (i + 1) old ≡ e ∷ drop (i + 1) t = sym (drop_more old i e h) ∙ same in
+    let first : get_or old i e ≡ e = cc in
+    let rest : drop (i + 1) old ≡ drop (i + 1) t = cc in
+    let front : map (moved_entry m) (take (i + 1) old) ≡ map (moved_entry m) (take i old) ++ (moved_entry m e ∷ []) =
+    ap (map (moved_entry m)) (take_more old i e h ∙ ap (λ (d : Entry M). take i old ++ (d ∷ [])) first) ∙ map-append (moved_entry m) (take i old) (e ∷ []) in
+    (take_more_set t i (moved_entry m e) l ∙ ap (λ (ds : List (Entry M)). ds ++ (moved_entry m e ∷ [])) a ∙ sym front, drop-set-lt (i + 1) t i (moved_entry m e) n ∙ sym rest)
+
 module _ {M : Type 0} (m : Affine) (s : Sheet) (t : List (Entry M)) where
   moved_front : used s (shift_all_table s t m) ≡ map (moved_entry m) (used s t)
   moved_front =
