@@ -6,6 +6,10 @@ use Rattle.std.proofs.lemmas.Nat.{div-add-mod', mod_below, div_below, mul-le}
 abbrev pub Next : ℕ → ℕ → ℕ → ℕ → ℕ → ℕ → ℕ → Type 0
 Next r s B a b t n = (t * t + n ≡ (r * r + s) * (B * B) + (a * B + b)) × (n ≤ 2 * t)
 
+some_digit : (q n : ℕ) → n < q * q → 0 < q
+some_digit zero n h = absurd (omega arith)
+some_digit (suc q) n h = omega arith
+
 -- ---- the square of one less
 pub square_below : (r : ℕ) → 0 < r → (r - 1) * (r - 1) + 2 * r ≡ r * r + 1
 square_below r h = let e : r ≡ r - 1 + 1 = omega arith in omega (arith, ap (λ (z : ℕ). z * z) e)
