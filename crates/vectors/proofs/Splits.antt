@@ -1,5 +1,5 @@
 -- A case's text has one reading. Assumes nothing.
-use Rattle.std.proofs.Common.{◌≡◌, ◌≢◌, ℕ, ◌<◌, true, List, [], ◌∷◌, ◌++◌, length, get_or, Option, Some, None, Bor, refl, sym, ap, ◌∙◌, arith}
+use Rattle.std.proofs.Common.{◌≡◌, ◌≢◌, ℕ, ◌<◌, true, List, [], ◌∷◌, ◌++◌, length, get_or, Option, Some, None, Bor, codes, refl, sym, ap, ◌∙◌, arith}
 use Rattle.std.specs.Option.{MatchOption}
 use Rattle.std.specs.List.{list_all}
 use Rattle.std.proofs.lemmas.Bool.{and_parts}
@@ -17,6 +17,10 @@ use Rattle.vectors.specs.declared.case.Numbers.TheVariants.{One, Two}
 use Rattle.vectors.specs.Answers.{Answers}
 use Rattle.vectors.specs.Functions.{name_of}
 use Rattle.vectors.specs.Texts.{AllFit, WritesAll, text_of}
+
+-- two words, put together again
+pub two_words : (t u w a b : List ℕ) → t ≡ u ++ (32 ∷ w) → u ≡ a → w ≡ b → t ≡ a ++ (codes " " ++ b)
+two_words t u w a b e p q = cc
 
 -- words hold no blank, nor '-'
 pub words_lack : (b : ℕ) (bs : List ℕ) → b < 48 → list_all is_word_byte bs ≡ true → (i : ℕ) → i < length bs → get_or bs i 0 ≢ b
