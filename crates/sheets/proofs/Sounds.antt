@@ -182,6 +182,28 @@ module _ {M : Type 0} (k : Marks M) where
       go None h = none (nonzero (gives k p r)) refl h
       go (Some i) h = subst (HighestAt k p (r ∷ bs)) (sym (add-one i)) h
 
+  -- and no other answer is right
+  none_highest : (p : Point) (bs : List (Row M)) (i : ℕ) → HoldsNone k p bs → HighestAt k p bs i → ⊥
+  none_highest p [] i n h = h
+  none_highest p (r ∷ bs) zero n h = h.0 n.0
+  none_highest p (r ∷ bs) (suc i) n h = none_highest p bs i n.1 h
+
+  same_highest : (p : Point) (bs : List (Row M)) (i j : ℕ) → HighestAt k p bs i → HighestAt k p bs j → i ≡ j
+  same_highest p [] i j h g = absurd h
+  same_highest p (r ∷ bs) zero zero h g = refl
+  same_highest p (r ∷ bs) zero (suc j) h g = absurd (none_highest p bs j h.1 g)
+  same_highest p (r ∷ bs) (suc i) zero h g = absurd (none_highest p bs i g.1 h)
+  same_highest p (r ∷ bs) (suc i) (suc j) h g = ap suc (same_highest p bs i j h g)
+
+  one_uppermost : (p : Point) (bs : List (Row M)) (a b : Option ℕ) → Uppermost k p bs a → Uppermost k p bs b → a ≡ b
+  one_uppermost p bs None None h g = refl
+  one_uppermost p bs None (Some j) h g = absurd (none_highest p bs j h g)
+  one_uppermost p bs (Some i) None h g = absurd (none_highest p bs i g h)
+  one_uppermost p bs (Some i) (Some j) h g = ap Some (same_highest p bs i j h g)
+
+  pub only_topped : (p : Point) (bs : List (Row M)) (o : Option ℕ) → Uppermost k p bs o → o ≡ highest k p bs
+  only_topped p bs o h = one_uppermost p bs o (highest k p bs) h (topped p bs)
+
   -- ---- drawings
   from_err : (t : Float) (i : ℕ) (f : SheetFault) (bs : List (Row M)) → drawn_from k t i (Err f) bs ≡ Err f
   from_err t i f [] = refl
