@@ -1,15 +1,16 @@
 -- Texts of hexadecimal digits, and the numbers that they write. Assumes nothing.
-use Rattle.std.proofs.Common.{◌≡◌, ℕ, zero, suc, ◌+◌, ◌*◌, ◌/◌, ◌%◌, ◌^◌, ◌<◌, Bool, true, false, cond, List, [], ◌∷◌, ◌++◌, length, drop, refl, sym, ap, ◌∙◌, append_assoc, add-one, pow-suc, arith}
+use Rattle.std.proofs.Common.{◌≡◌, ℕ, zero, suc, ◌+◌, ◌*◌, ◌/◌, ◌%◌, ◌^◌, ◌<◌, ◌≢◌, Bool, true, false, cond, List, [], ◌∷◌, ◌++◌, length, drop, get_or, take, refl, sym, ap, ◌∙◌, append_assoc, add-one, pow-suc, arith}
 use Rattle.std.specs.Prelude.{nat_eq, Result, Ok, Err}
 use Rattle.std.specs.List.{list_all}
 use Rattle.std.specs.Char.{digit_value}
 use Rattle.std.specs.Str.Parse.{digits_value_after, digits_value, AllDigits, ParsesUnsigned, without_leading_plus}
 use Rattle.std.proofs.lemmas.Bool.{and_from, and_parts}
 use Rattle.std.proofs.lemmas.Bool.Decides.{nat_tests}
-use Rattle.std.proofs.lemmas.List.{append-nil, length-append}
-use Rattle.std.proofs.lemmas.List.Folds.{list_all-append}
+use Rattle.std.proofs.lemmas.List.{append-nil, length-append, take_all, take_more}
+use Rattle.std.proofs.lemmas.List.Folds.{list_all-append, list_all_at}
 use Rattle.std.proofs.lemmas.Int.Digits.{digits_value-lt, digits_value_push}
-use lib.Arith.{digits_div, digits_mod}
+use native.Mathlib.Nat.{pow-le-pow_right}
+use lib.Arith.{digits_lt, digits_div, digits_mod}
 use Rattle.std.specs.Result.{result_ok}
 use Rattle.cases.specs.Texts.{Finds, hex_digit, hexadecimal, is_hex_digit}
 
@@ -47,9 +48,27 @@ digits_value-hexadecimal (suc k) n h =
     digits_value_push 16 (hexadecimal k (n / 16)) (hex_digit (n % 16)) ∙ omega (arith, front, last)
 
 -- one digit more
-more_digits : (k n d : ℕ) → d < 16 → hexadecimal (k + 1) (n * 16 + d) ≡ hexadecimal k n ++ (hex_digit d ∷ [])
+pub more_digits : (v d i : ℕ) → d < 16 → hexadecimal (i + 1) (v * 16 + d) ≡ hexadecimal i v ++ (hex_digit d ∷ [])
 unfolding hexadecimal
-more_digits k n d h = rw (add-one, digits_div n h, digits_mod n h)
+more_digits v d i k = rw (add-one, digits_div v k, digits_mod v k)
+
+-- up to fifteen digits there is room for one more
+pub room : (v i : ℕ) → v < 16 ^ i → i < 16 → v < 2 ^ 60
+room v i h k = omega (arith, pow-le-pow_right {n = 16} (omega arith) {i = i} {j = 15} (omega arith))
+
+pub more_below : (v d i : ℕ) → v < 16 ^ i → d < 16 → v * 16 + d < 16 ^ (i + 1)
+more_below v d i h k = rw (add-one, pow-suc 16 i) (digits_lt h k)
+
+pub more_read : (bs : List ℕ) (v d i : ℕ) → i < length bs → d < 16 → get_or bs i 0 ≡ hex_digit d → take i bs ≡ hexadecimal i v → take (i + 1) bs ≡ hexadecimal (i + 1) (v * 16 + d)
+more_read bs v d i l k e h = rw (take_more bs i 0 l, more_digits v d i k, e, h)
+
+-- sixteen digits fit 64 bits
+pub all_read : (bs : List ℕ) (v i : ℕ) → length bs ≡ 16 → i ≡ 16 → v < 16 ^ i → take i bs ≡ hexadecimal i v → (v < 2 ^ 64) × (bs ≡ hexadecimal 16 v)
+all_read bs v i l e h k =
+    let below : v < 16 ^ 16 = rw e at h in
+    let whole : take 16 bs ≡ bs = take_all 16 bs (omega arith) in
+    let read : take 16 bs ≡ hexadecimal 16 v = rw e at k in
+    (below, sym whole ∙ read)
 
 -- digits behind those of n
 pub hexadecimal-digits_value_after : (ds : List ℕ) (k n : ℕ) → list_all is_hex_digit ds ≡ true → hexadecimal (k + length ds) (digits_value_after 16 n ds) ≡ hexadecimal k n ++ ds
@@ -60,7 +79,7 @@ hexadecimal-digits_value_after (c ∷ cs) k n h =
     let both = and_parts (is_hex_digit c) (list_all is_hex_digit cs) h in
     let room : k + length (c ∷ cs) ≡ (k + 1) + length cs = omega arith in
     let rest = hexadecimal-digits_value_after cs (k + 1) (n * 16 + digit_value c) both.1 in
-    let first = more_digits k n (digit_value c) (digit_value-lt c both.0) in
+    let first = more_digits n (digit_value c) k (digit_value-lt c both.0) in
     ap (λ (j : ℕ). hexadecimal j (digits_value_after 16 n (c ∷ cs))) room ∙ rest ∙ ap (λ (l : List ℕ). l ++ cs) first
     ∙ append_assoc (hexadecimal k n) (hex_digit (digit_value c) ∷ []) cs ∙ ap (λ (b : ℕ). hexadecimal k n ++ (b ∷ cs)) (hex_digit-digit_value c both.0)
 
@@ -99,6 +118,16 @@ finds_digits bs (Err e) l h p =
 -- a text of other bytes, or of another length, is that of no number
 pub written_in_digits : (bs : List ℕ) (n : ℕ) → bs ≡ hexadecimal 16 n → (length bs ≡ 16) × (list_all is_hex_digit bs ≡ true)
 written_in_digits bs n e = rw e (length-hexadecimal 16 n, all_digits-hexadecimal 16 n)
+
+pub other_length : (bs : List ℕ) → length bs ≢ 16 → (n : ℕ) → ¬ ((n < 2 ^ 64) × (bs ≡ hexadecimal 16 n))
+other_length bs l n h = l (written_in_digits bs n h.1).0
+
+pub other_byte : (bs : List ℕ) (i : ℕ) → i < length bs → ((d : ℕ) → ¬ ((d < 16) × (get_or bs i 0 ≡ hex_digit d))) → (n : ℕ) → ¬ ((n < 2 ^ 64) × (bs ≡ hexadecimal 16 n))
+other_byte bs i l none n h = by (is_hex_digit (get_or bs i 0)) refl
+  where
+    by : (b : Bool) → is_hex_digit (get_or bs i 0) ≡ b → ⊥
+    by true e = none (digit_value (get_or bs i 0)) (digit_value-lt (get_or bs i 0) e, sym (hex_digit-digit_value (get_or bs i 0) e))
+    by false e = let all = (written_in_digits bs n h.1).1 in let fails = list_all_at is_hex_digit bs i 0 l e in cc
 
 pub hexadecimal-injective : (k m n : ℕ) → m < 16 ^ k → n < 16 ^ k → hexadecimal k m ≡ hexadecimal k n → m ≡ n
 hexadecimal-injective k m n h l e = sym (digits_value-hexadecimal k m h) ∙ ap (digits_value 16) e ∙ digits_value-hexadecimal k n l

@@ -1,8 +1,7 @@
 //! Numbers as a list of cases has them, and when two of them agree.
 ghost use Rattle.std.specs.Prelude.{◌≡◌, ◌^◌, ◌<◌, Some};
-ghost use Rattle.std.specs.List.{list_all};
 ghost use Rattle.std.specs.Result.{result_ok};
-ghost use Rattle.cases.specs.Texts.{Finds, Writes, hexadecimal, is_hex_digit, written};
+ghost use Rattle.cases.specs.Texts.{Finds, Writes, hex_digit, hexadecimal, written};
 ghost use Rattle.cases.specs.Equal.{same_bits, same_value as of_one_value};
 
 use std::fmt;
@@ -62,21 +61,27 @@ pub fn same_value(a: f64, b: f64) -> bool
     a == b || (a.is_nan() && b.is_nan())
 }
 
-// The number with these sixteen digits. Std's own reading alone takes capitals and a sign too.
+// The number with these sixteen digits. Std's own reading takes capitals and a sign too: with a test for those before it,
+// each byte would be read twice.
 fn sixteen_digits(word: &str) -> Option<u64>
     ensures { Finds (λ n. (n < 2 ^ 64) × (word.now ≡ hexadecimal 16 n)) result }
 {
-    if word.len() == 16 && has_digits_alone(word.as_bytes()) {
-        u64::from_str_radix(word, 16).ok()
-    } else {
-        None
+    if word.len() != 16 {
+        return None;
     }
+    let mut value = 0;
+    for byte in word.as_bytes() {
+        value = value * 16 + digit(*byte)?;
+    }
+    Some(value)
 }
 
-fn has_digits_alone(bytes: &[u8]) -> bool
-    ensures { result ≡ list_all is_hex_digit bytes.now }
+fn digit(byte: u8) -> Option<u64>
+    ensures { Finds (λ d. (d < 16) × (byte ≡ hex_digit d)) result }
 {
-    bytes
-        .iter()
-        .all(|byte| matches!(byte, b'0'..=b'9' | b'a'..=b'f'))
+    match byte {
+        b'0'..=b'9' => Some(u64::from(byte - b'0')),
+        b'a'..=b'f' => Some(u64::from(byte - b'a' + 10)),
+        _ => None,
+    }
 }
