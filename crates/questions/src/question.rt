@@ -1,5 +1,5 @@
 //! What a case asks.
-ghost use Rattle.std.specs.Prelude.{◌≡◌};
+ghost use Rattle.std.specs.Prelude.{◌≡◌, Some};
 ghost use Rattle.questions.specs.Names.{name_of, word_of, kind_of, all_kinds, all_whats, place_of};
 ghost use Rattle.questions.specs.Named.{kinds_named, whats_named, kinds_placed};
 
@@ -12,6 +12,7 @@ use plane::rect::Rect;
 use rounded::rounded_rect::RoundedRect;
 use shapes::circle::Circle;
 use shapes::triangle::Triangle;
+use std::fmt;
 
 /// What a case is about.
 #[derive(Clone, Copy, Debug, PartialEq, Eq)]
@@ -76,6 +77,14 @@ impl Counted<{ Kind::COUNT }> for Kind {
     }
 
     ghost within = { kinds_placed };
+}
+
+impl fmt::Display for Kind {
+    ghost output = { λ k. Some (name_of k) };
+
+    fn fmt<W: fmt::Write>(&self, f: &mut fmt::Formatter<W>) -> fmt::Result {
+        f.write_str(self.name())
+    }
 }
 
 /// What is asked, by its name.

@@ -103,6 +103,14 @@ impl Counted<{ Function::COUNT }> for Function {
     }
 }
 
+impl fmt::Display for Function {
+    ghost output = { λ f. Some (name_of f) };
+
+    fn fmt<W: fmt::Write>(&self, f: &mut fmt::Formatter<W>) -> fmt::Result {
+        f.write_str(self.name())
+    }
+}
+
 /// The arguments of a function, or its answer.
 #[derive(Clone, Copy)]
 pub enum Numbers {
