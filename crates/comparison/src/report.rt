@@ -35,7 +35,8 @@ impl Comparison {
     {
         let kind = question.kind();
         let got = question.answer_text(self.heap)?;
-        let got = got.as_str();
+        // A blank stands before the words, and the report writes one of its own.
+        let got = got.strip_prefix(' ').unwrap_or_default();
         let agrees = same_words(got, expected, kind);
         self.report.count(kind, agrees, &got, out)
     }

@@ -1,5 +1,5 @@
-//! The text of an answer: its words as a list has them, one blank apart.
-ghost use Rattle.std.specs.Prelude.{Some};
+//! The text of an answer: a blank, and its words as a list has them, one blank apart.
+ghost use Rattle.std.specs.Prelude.{◌++◌, codes, Some};
 ghost use Rattle.questions.specs.Texts.{pair_text, element_text, path_text, text_of};
 
 use super::answer::Answer;
@@ -8,34 +8,34 @@ use plane::bezpath::PathEl;
 use std::fmt;
 
 impl fmt::Display for Answer {
-    ghost output = { λ a. Some (text_of a) };
+    ghost output = { λ a. Some (codes " " ++ text_of a) };
 
     fn fmt<W: fmt::Write>(&self, f: &mut fmt::Formatter<W>) -> fmt::Result {
         match self {
-            Answer::Number(x) => write!(f, "{}", Number(*x)),
-            Answer::Length(length, steps) => write!(f, "{} {steps}", Number(*length)),
-            Answer::Frame(r) => write!(f, "{} {}", Pair(r.x0, r.y0), Pair(r.x1, r.y1)),
-            Answer::Winding(winding) => write!(f, "{winding}"),
-            Answer::Holds(holds) => write!(f, "{holds}"),
-            Answer::Point(p) => write!(f, "{}", Pair(p.x, p.y)),
+            Answer::Number(x) => write!(f, " {}", Number(*x)),
+            Answer::Length(length, steps) => write!(f, " {} {steps}", Number(*length)),
+            Answer::Frame(r) => write!(f, " {} {}", Pair(r.x0, r.y0), Pair(r.x1, r.y1)),
+            Answer::Winding(winding) => write!(f, " {winding}"),
+            Answer::Holds(holds) => write!(f, " {holds}"),
+            Answer::Point(p) => write!(f, " {}", Pair(p.x, p.y)),
             Answer::Map(m) => write!(
                 f,
-                "{} {} {}",
+                " {} {} {}",
                 Pair(m.a, m.b),
                 Pair(m.c, m.d),
                 Pair(m.e, m.f)
             ),
-            Answer::Radii(r, angle) => write!(f, "{} {}", Pair(r.x, r.y), Number(*angle)),
+            Answer::Radii(r, angle) => write!(f, " {} {}", Pair(r.x, r.y), Number(*angle)),
             Answer::Corners(r, k) => write!(
                 f,
-                "{} {} {} {}",
+                " {} {} {} {}",
                 Pair(r.x0, r.y0),
                 Pair(r.x1, r.y1),
                 Pair(k.top_left, k.top_right),
                 Pair(k.bottom_right, k.bottom_left)
             ),
-            Answer::Path(path) => write!(f, "{}", Elements(path.as_slice())),
-            Answer::Refused(fault) => write!(f, "refused {fault}"),
+            Answer::Path(path) => write!(f, " {}", Elements(path.as_slice())),
+            Answer::Refused(fault) => write!(f, " refused {fault}"),
         }
     }
 }
