@@ -24,9 +24,14 @@ element_text (QuadTo p q) = codes "Q " ++ (point_text p ++ (codes " " ++ point_t
 element_text (CurveTo p q r) = codes "C " ++ (point_text p ++ (codes " " ++ (point_text q ++ (codes " " ++ point_text r))))
 element_text ClosePath = codes "Z"
 
+-- with a blank before each
+abbrev pub elements_text : List PathEl → List ℕ
+elements_text els = flat_map (λ e. codes " " ++ element_text e) els
+
+-- one blank apart
 abbrev pub path_text : List PathEl → List ℕ
 path_text [] = []
-path_text (el ∷ els) = element_text el ++ flat_map (λ e. codes " " ++ element_text e) els
+path_text (el ∷ els) = element_text el ++ elements_text els
 
 -- the words of an answer, one blank apart
 abbrev pub text_of : Answer → List ℕ
@@ -42,3 +47,8 @@ text_of (Given.Corners r k) =
     pair_text r.x0 r.y0 ++ (codes " " ++ (pair_text r.x1 r.y1 ++ (codes " " ++ (pair_text k.top_left k.top_right ++ (codes " " ++ pair_text k.bottom_right k.bottom_left)))))
 text_of (Given.Path v) = path_text (vec_items v)
 text_of (Given.Refused e) = codes "refused " ++ fault_text e
+
+-- the words of an answer, with a blank before each
+abbrev pub answer_text : Answer → List ℕ
+answer_text (Given.Path v) = elements_text (vec_items v)
+answer_text a = codes " " ++ text_of a

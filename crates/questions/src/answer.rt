@@ -1,7 +1,7 @@
 //! What the shapes and the maps answer.
-ghost use Rattle.std.specs.Prelude.{◌≡◌, ◌++◌, codes, IfOk, OnErr, IsTrue, Some, string_bytes};
+ghost use Rattle.std.specs.Prelude.{◌≡◌, IfOk, OnErr, IsTrue, Some, string_bytes};
 ghost use Rattle.questions.specs.Answers.{drawing, shown, ShapeAnswers, Answers, EllipseAnswers, map_answer, RightTo};
-ghost use Rattle.questions.specs.Texts.{text_of};
+ghost use Rattle.questions.specs.Texts.{answer_text};
 ghost use Rattle.questions.specs.Memory.{shape_asks_path, asks_path, ellipse_asks_path, wants_memory};
 
 use super::figure::{Figure, Outlined};
@@ -46,9 +46,9 @@ pub enum Answer {
 }
 
 impl Question {
-    /// The text of the answer: a blank, and its words as a list has them, one blank apart.
+    /// The text of the answer: its words as a list has them, with a blank before each.
     pub fn answer_text(self, heap: Global) -> Result<String, AllocError>
-        ensures { IfOk result (λ s. (a : Answer) × RightTo self a × (string_bytes s ≡ codes " " ++ text_of a)) }
+        ensures { IfOk result (λ s. (a : Answer) × RightTo self a × (string_bytes s ≡ answer_text a)) }
     {
         let answer = self.answer(heap)?;
         format!(in heap; "{answer}")

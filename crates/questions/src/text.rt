@@ -1,6 +1,6 @@
-//! The text of an answer: a blank, and its words as a list has them, one blank apart.
-ghost use Rattle.std.specs.Prelude.{◌++◌, codes, Some};
-ghost use Rattle.questions.specs.Texts.{pair_text, element_text, path_text, text_of};
+//! The text of an answer: its words as a list has them, with a blank before each.
+ghost use Rattle.std.specs.Prelude.{Some};
+ghost use Rattle.questions.specs.Texts.{pair_text, element_text, elements_text, answer_text};
 
 use super::answer::Answer;
 use cases::number::Number;
@@ -8,7 +8,7 @@ use plane::bezpath::PathEl;
 use std::fmt;
 
 impl fmt::Display for Answer {
-    ghost output = { λ a. Some (codes " " ++ text_of a) };
+    ghost output = { λ a. Some (answer_text a) };
 
     fn fmt<W: fmt::Write>(&self, f: &mut fmt::Formatter<W>) -> fmt::Result {
         match self {
@@ -34,25 +34,22 @@ impl fmt::Display for Answer {
                 Pair(k.top_left, k.top_right),
                 Pair(k.bottom_right, k.bottom_left)
             ),
-            Answer::Path(path) => write!(f, " {}", Elements(path.as_slice())),
+            Answer::Path(path) => write!(f, "{}", Elements(path.as_slice())),
             Answer::Refused(fault) => write!(f, " refused {fault}"),
         }
     }
 }
 
-// The elements of a path.
+// The elements of a path, with a blank before each.
 #[derive(Clone, Copy)]
 struct Elements<'a>(&'a [PathEl]);
 
 impl fmt::Display for Elements<'_> {
-    ghost output = { λ p. Some (path_text p.0.now) };
+    ghost output = { λ p. Some (elements_text p.0.now) };
 
     fn fmt<W: fmt::Write>(&self, f: &mut fmt::Formatter<W>) -> fmt::Result {
-        let Some((first, others)) = self.0.split_first() else {
-            return Ok(());
-        };
-        write!(f, "{}", Element(*first))?;
-        for el in others {
+        let path = self.0;
+        for el in path {
             write!(f, " {}", Element(*el))?;
         }
         Ok(())
